@@ -75,7 +75,7 @@ revived m = cond (m .gone) (record { locked = m .locked; gone = false; shares = 
 
 -- Take answers the new word and the permit together, or the cause.
 abbrev pub Took : Face → Word → Result (Word × Permit) Cause → Type 0
-Took f w (Ok (v , p)) = (takeRefusal (f .limit) (f .means w) ≡ None) × (f .means v ≡ shared (f .weight p) (f .means w)) × (p ≡ noted (f .means w))
+Took f w (Ok (v, p)) = (takeRefusal (f .limit) (f .means w) ≡ None) × (f .means v ≡ shared (f .weight p) (f .means w)) × (p ≡ noted (f .means w))
 Took f w (Err c) = takeRefusal (f .limit) (f .means w) ≡ Some c
 
 abbrev pub Passed : Face → Word → Permit → Result (Unit {0}) Cause → Type 0

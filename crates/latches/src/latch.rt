@@ -72,5 +72,4 @@ pub trait Latch {
 /// The cause that a refusal carries applies, and no smaller one does.
 pub fn smallest_cause()
     ensures { λ _. ⌜ SmallestCause ⌝ }
-{
-}
+{}

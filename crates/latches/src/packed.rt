@@ -54,7 +54,13 @@ pub fn take(word: Word, weight: u64, limit: u64) -> Result<(Word, Permit), Cause
     } else if m.shares == limit {
         Err(Cause::Shared)
     } else {
-        let taken = pack(Meaning { shares: m.shares + weight, ..m }, limit);
+        let taken = pack(
+            Meaning {
+                shares: m.shares + weight,
+                ..m
+            },
+            limit,
+        );
         Ok((taken, Permit { count: m.count }))
     }
 }
@@ -83,7 +89,14 @@ pub fn lock(word: Word, permit: Permit, weight: u64, limit: u64) -> Result<Word,
     if m.shares > weight {
         return Err(Cause::Shared);
     }
-    Ok(pack(Meaning { locked: true, shares: 0, ..m }, limit))
+    Ok(pack(
+        Meaning {
+            locked: true,
+            shares: 0,
+            ..m
+        },
+        limit,
+    ))
 }
 
 pub fn give_back(word: Word, permit: Permit, weight: u64, limit: u64) -> Word
@@ -91,7 +104,13 @@ pub fn give_back(word: Word, permit: Permit, weight: u64, limit: u64) -> Word
     ensures { λ r. ⌜ Returned (packedFace weight limit) word permit r ⌝ }
 {
     let m = unpack(word, limit);
-    pack(Meaning { shares: m.shares.saturating_sub(weight), ..m }, limit)
+    pack(
+        Meaning {
+            shares: m.shares.saturating_sub(weight),
+            ..m
+        },
+        limit,
+    )
 }
 
 pub fn unlock(word: Word, weight: u64, limit: u64) -> Word
@@ -99,7 +118,14 @@ pub fn unlock(word: Word, weight: u64, limit: u64) -> Word
     ensures { λ r. ⌜ Freed (packedFace weight limit) word r ⌝ }
 {
     let m = unpack(word, limit);
-    pack(Meaning { locked: false, count: next_count(m.count), ..m }, limit)
+    pack(
+        Meaning {
+            locked: false,
+            count: next_count(m.count),
+            ..m
+        },
+        limit,
+    )
 }
 
 pub fn unlock_gone(word: Word, weight: u64, limit: u64) -> Word
@@ -107,7 +133,15 @@ pub fn unlock_gone(word: Word, weight: u64, limit: u64) -> Word
     ensures { λ r. ⌜ FreedGone (packedFace weight limit) word r ⌝ }
 {
     let m = unpack(word, limit);
-    pack(Meaning { locked: false, gone: true, count: next_count(m.count), ..m }, limit)
+    pack(
+        Meaning {
+            locked: false,
+            gone: true,
+            count: next_count(m.count),
+            ..m
+        },
+        limit,
+    )
 }
 
 pub fn revive(word: Word, weight: u64, limit: u64) -> Word
@@ -116,7 +150,14 @@ pub fn revive(word: Word, weight: u64, limit: u64) -> Word
 {
     let m = unpack(word, limit);
     if m.gone {
-        pack(Meaning { gone: false, count: next_count(m.count), ..m }, limit)
+        pack(
+            Meaning {
+                gone: false,
+                count: next_count(m.count),
+                ..m
+            },
+            limit,
+        )
     } else {
         word
     }

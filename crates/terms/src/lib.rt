@@ -1,5 +1,10 @@
-//! The words that every layer shares: refusals, causes and kinds, each with its number.
+//! The words that every layer shares: refusals, causes and kinds, each with its number, and what a step comes to.
 
+mod outcome;
+
+pub use outcome::Answer;
+pub use outcome::Clash;
+pub use outcome::Outcome;
 ghost use mathlib.Core.Path.{_≡_};
 ghost use Rattle.terms.specs.Numbers.{refusalNumber, causeNumber, kindNumber};
 
