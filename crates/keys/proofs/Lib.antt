@@ -1,0 +1,4 @@
+pub mod Lists
+pub mod ByteOrder
+pub mod NumberLaws
+pub mod TextLaws
