@@ -12,6 +12,16 @@ use crate::code::Code;
 use crate::code::LONGEST_KEY;
 
 impl Code {
+    /// The code of no key.
+    pub fn empty() -> Code
+        ensures { λ r. ⌜ coded r ≡ [] ⌝ }
+    {
+        Code {
+            bytes: [0; LONGEST_KEY],
+            len: 0,
+        }
+    }
+
     /// The code of these bytes, unless they are more than a code holds.
     pub fn new(bytes: &[u8]) -> Option<Code>
         ensures { λ r. ⌜ Cases r (longestKey < length (now (bytes .entry))) (λ c. coded c ≡ now (bytes .entry)) ⌝ }

@@ -25,10 +25,10 @@ pub below-first : (xs : List ℕ) (x n : ℕ) → Below xs n → Some x ≡ firs
 below-first [] x n f e = let z : _≡_ {A = ℕ} 0 1 = cc in omega arith
 below-first (y ∷ xs) x n f e = let z : x ≡ y = cc in omega (arith, f 0)
 
-pub first-rest : (xs : List ℕ) (x : ℕ) → Some x ≡ first xs → xs ≡ x ∷ rest xs
+pub first-rest : {A : Type 0} (xs : List A) (x : A) → Some x ≡ first xs → xs ≡ x ∷ rest xs
 first-rest [] x e = let z : _≡_ {A = ℕ} 0 1 = cc in absurd (omega arith)
 first-rest (y ∷ xs) x e = let z : x ≡ y = cc in cc
 
-pub first-none : (xs : List ℕ) → None ≡ first xs → xs ≡ []
+pub first-none : {A : Type 0} (xs : List A) → None ≡ first xs → xs ≡ []
 first-none [] e = refl
 first-none (y ∷ xs) e = let z : _≡_ {A = ℕ} 0 1 = cc in absurd (omega arith)

@@ -2,7 +2,7 @@
 //! N is one more than the largest slot, and tells one pool's owed slots from another's.
 
 ghost use mathlib.Core.Path.{_≡_};
-ghost use mathlib.Core.Bool.{false, cond};
+ghost use mathlib.Core.Bool.{false, cond, _&&_};
 ghost use mathlib.Core.List.{[], _∷_, _++_};
 ghost use Prim.Native.Nat.{_+_, _^_, _<_};
 ghost use lib.Dec.{ltb};
@@ -76,16 +76,20 @@ impl<const N: usize> Slots<N> {
         let _ = self.queue.put(table, slot);
     }
 
-    /// Makes a slot spare that was in use, behind all others; where every slot is spare or owed it only says so.
+    /// Makes a slot spare that was in use, behind all others.
+    /// Where the slot is not of this pool, or every slot is spare or owed, it only says so.
     pub fn free(&mut self, slot: u16, table: &mut [u16]) -> bool
-        requires { ⌜ Sound (now table) (now self) × (slot < N) × (N < 2 ^ 16) ⌝ }
+        requires { ⌜ Sound (now table) (now self) × (N < 2 ^ 16) ⌝ }
         ensures sound { λ _. ⌜ Sound (now (table .exit)) (now (self .exit)) ⌝ }
-        ensures answer { λ r. ⌜ r ≡ ltb (now (self .entry) .queue .len + now (self .entry) .owed) (length (now (table .entry))) ⌝ }
+        ensures answer { λ r. ⌜ r ≡ (ltb slot N && ltb (now (self .entry) .queue .len + now (self .entry) .owed) (length (now (table .entry)))) ⌝ }
         ensures back { λ r. ⌜ spare (now (table .exit)) (now (self .exit)) ≡ cond r (spare (now (table .entry)) (now (self .entry)) ++ slot ∷ []) (spare (now (table .entry)) (now (self .entry))) ⌝ }
         ensures owed { λ _. ⌜ now (self .exit) .owed ≡ now (self .entry) .owed ⌝ }
         ensures len { λ r. ⌜ now (self .exit) .queue .len ≡ cond r (now (self .entry) .queue .len + 1) (now (self .entry) .queue .len) ⌝ }
         ensures full { λ r. ⌜ (r ≡ false → (now (self .exit) ≡ now (self .entry)) × (now (table .exit) ≡ now (table .entry))) ⌝ }
     {
+        if slot as usize >= N {
+            return false;
+        }
         if self.queue.len + self.owed as usize >= table.len() {
             return false;
         }
