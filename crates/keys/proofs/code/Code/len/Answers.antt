@@ -1,6 +1,6 @@
-use native.Mathlib.Omega.{arith}
+use borrow.Author.Needs.{needs}
 use lib.ListN.{length-take}
 use Rattle.keys.proofs.code.Code.len.Needs as need
 
 pub returns : need.returns
-returns c = simp length-take (omega arith)
+returns c = search (needs, length-take)

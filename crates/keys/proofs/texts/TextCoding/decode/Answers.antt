@@ -1,11 +1,10 @@
+use borrow.Author.Needs.{needs}
 use mathlib.Core.Path.{refl, ap, _∙_}
 use native.Mathlib.Omega.{arith}
 use Rattle.std.proofs.shelf.Lists.{same-from-push, length-push}
-use Rattle.std.proofs.shelf.Tests.{both-ways}
 use lib.ListN.{length}
 use Rattle.keys.specs.Texts.{Plain, spelled}
 use Rattle.keys.proofs.texts.TextCoding.decode.Needs as need
-use Rattle.keys.proofs.texts.TextCoding.decode.Needs.{then-last-ne0·by·then-last-ne0, then-last-ne0·by·else-last-ne0·then-not-is-plain}
 
 pub returns-in-rest : need.returns-in-rest
 returns-in-rest c = (refl, λ k h e. omega (arith, ap length e, length-push (spelled k) 0, c .in-rest .ensures tt .cases))
@@ -16,8 +15,5 @@ returns-then-last-ne0 c = (
   λ k h e.
       let p = same-from-push (spelled k) (c .in-Some .front .now) 0 (c .in-Some .last .now) (e ∙ c .in-Some .ensures tt .cases .0) in
       let s : Plain (c .in-Some .front .now) = rw (p .0) at h in
-      elim (c .then-last-ne0 .came) [
-        | then-last-ne0·by·then-last-ne0 w ↦ omega (arith, w .if-last-ne0 .taken, p .1)
-        | then-last-ne0·by·else-last-ne0·then-not-is-plain w ↦ both-ways _ (w .if-not-is-plain .taken) (w .is-plain .ensures .1 s)
-      ],
+      search needs,
 )
