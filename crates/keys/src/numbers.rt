@@ -1,4 +1,3 @@
-ghost use Prim.Native.Nat.{_<_};
 ghost use lib.Signed.{_<ℤ_};
 ghost use Rattle.keys.specs.Numbers.{Signed32, numberBytes};
 use crate::code::Code;

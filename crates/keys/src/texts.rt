@@ -1,5 +1,5 @@
 ghost use mathlib.Core.Path.{_≡_};
-ghost use Prim.Native.Nat.{_<_, _≤_};
+ghost use Prim.Native.Nat.{_≤_};
 ghost use lib.ListN.{length};
 ghost use Rattle.keys.specs.Room.{textRoom};
 ghost use Rattle.keys.specs.Texts.{Accepted, Earlier, Plain, Made, spelled, textBytes};

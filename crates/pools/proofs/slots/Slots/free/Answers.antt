@@ -13,7 +13,7 @@ pub returns : need.returns
 returns g c =
     let s = c .args .self .now in
     let ours : c .args .slot < g .N = search needs in
-  let room : s .queue .len + s .owed < length (c .args .table .now) = search needs in
+    let room : s .queue .len + s .owed < length (c .args .table .now) = search needs in
     let less : s .queue .len < length (c .args .table .now) = omega arith in
     let t : c .put .result ≡ true = c .put .ensures .answer ∙ lt-ltb _ _ less in
     let n : c .put .last .self .len ≡ s .queue .len + 1 = c .put .ensures .len ∙ rw t in

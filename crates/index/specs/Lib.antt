@@ -1,0 +1,7 @@
+pub mod Sizes
+pub mod Machine
+pub mod Trees
+pub mod Effects
+pub mod Meets
+pub mod Sweeps
+pub mod Calls
