@@ -103,15 +103,22 @@ pub record NoNodeSpare (f : Face) (σ τ : Tree) : Type 0 where
   pub word : Freed f (σ .word) (τ .word)
   pub around : Around σ τ
 
+abbrev pub LeafDrawn : Face → Code → ℕ → Tree → Tree → Result ℕ Kind → Type 0
+LeafDrawn f k v σ τ (Ok l) = Filled k v l σ τ
+LeafDrawn f k v σ τ (Err e) = (e ≡ LeafPool) × NoLeafSpare f σ τ
+
+abbrev pub NothingDrawn : Face → Tree → Tree → Kind → Type 0
+NothingDrawn f σ τ LeafPool = NoLeafSpare f σ τ
+NothingDrawn f σ τ Node4 = NoNodeSpare f σ τ
+NothingDrawn f σ τ Node16 = ⊥
+NothingDrawn f σ τ Node48 = ⊥
+NothingDrawn f σ τ Node256 = ⊥
+
+-- what the course needs, or the pool that has none spare
 abbrev pub DrawnFor : Face → Code → Tree → Tree → Course → Result ℕ Kind → Type 0
-DrawnFor f k σ τ (Insert v) (Ok l) = Filled k v l σ τ
-DrawnFor f k σ τ (Insert v) (Err e) = (e ≡ LeafPool) × NoLeafSpare f σ τ
+DrawnFor f k σ τ (Insert v) r = LeafDrawn f k v σ τ r
 DrawnFor f k σ τ (Split v) (Ok l) = ⊥
-DrawnFor f k σ τ (Split v) (Err LeafPool) = NoLeafSpare f σ τ
-DrawnFor f k σ τ (Split v) (Err Node4) = NoNodeSpare f σ τ
-DrawnFor f k σ τ (Split v) (Err Node16) = ⊥
-DrawnFor f k σ τ (Split v) (Err Node48) = ⊥
-DrawnFor f k σ τ (Split v) (Err Node256) = ⊥
+DrawnFor f k σ τ (Split v) (Err e) = NothingDrawn f σ τ e
 
 -- the children with a leaf under a byte
 abbrev pub linked : Option ℕ → ℕ → List (Option ℕ) → List (Option ℕ)

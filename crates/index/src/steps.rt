@@ -6,7 +6,7 @@ ghost use lib.ListN.{getD};
 ghost use Rattle.keys.specs.Codes.{coded};
 ghost use Rattle.std.specs.Iters.{counting};
 ghost use Rattle.std.specs.declared.option.Option.the-variants.{None};
-ghost use Rattle.index.specs.Effects.{Taken, Looked, GaveBack, Checked, LockedNow, DrawnFor, Written, Unlocked};
+ghost use Rattle.index.specs.Effects.{Taken, Looked, GaveBack, Checked, LockedNow, DrawnFor, LeafDrawn, NothingDrawn, Written, Unlocked};
 ghost use Rattle.index.specs.Trees.{Ready, Made, noLeaf};
 use crate::operation::Course;
 use crate::operation::Sight;
@@ -124,21 +124,41 @@ impl Tree {
         ensures ready { λ _. ⌜ Ready (now (self .exit)) ⌝ }
         ensures drawn { λ r. ⌜ DrawnFor face key (now (self .entry)) (now (self .exit)) course r ⌝ }
     {
-        let Some(drawn) = self.slots.draw(&self.table) else {
-            self.word = L::unlock(self.word);
-            return Err(Kind::Leaf);
-        };
         match course {
-            Course::Insert(value) => Ok(
-                self.slots
-                    .fill(drawn, &mut self.leaves, Leaf { key, value }),
-            ),
-            Course::Split(_) => {
-                // the root is the only node: the pool of Node4 is empty
-                self.slots.give_back(drawn, &mut self.table);
+            Course::Insert(value) => self.draw_leaf::<L>(Leaf { key, value }),
+            Course::Split(_) => Err(self.draw_none::<L>()),
+        }
+    }
+
+    // A leaf, at the slot that was spare longest.
+    fn draw_leaf<L: Latch>(&mut self, leaf: Leaf) -> Result<u16, Kind>
+        requires { ⌜ Ready (now self) ⌝ }
+        ensures ready { λ _. ⌜ Ready (now (self .exit)) ⌝ }
+        ensures drawn { λ r. ⌜ LeafDrawn face (leaf .key) (leaf .value) (now (self .entry)) (now (self .exit)) r ⌝ }
+    {
+        match self.slots.store(&self.table, &mut self.leaves, leaf) {
+            Some(slot) => Ok(slot),
+            None => {
                 self.word = L::unlock(self.word);
-                Err(Kind::Node4)
+                Err(Kind::Leaf)
             }
+        }
+    }
+
+    // A leaf and a node with it: the root is the only node, so that no Node4 is spare and the leaf goes back.
+    fn draw_none<L: Latch>(&mut self) -> Kind
+        requires { ⌜ Ready (now self) ⌝ }
+        ensures ready { λ _. ⌜ Ready (now (self .exit)) ⌝ }
+        ensures drawn { λ r. ⌜ NothingDrawn face (now (self .entry)) (now (self .exit)) r ⌝ }
+    {
+        let drawn = self.slots.draw(&self.table);
+        self.word = L::unlock(self.word);
+        match drawn {
+            Some(leaf) => {
+                self.slots.give_back(leaf, &mut self.table);
+                Kind::Node4
+            }
+            None => Kind::Leaf,
         }
     }
 

@@ -63,6 +63,20 @@ impl<const N: usize> Slots<N> {
         slot
     }
 
+    /// Draws a slot for the item and fills it in, or says that none is spare.
+    pub fn store<T: Copy>(&mut self, table: &[u16], items: &mut [T], item: T) -> Option<u16>
+        requires { ⌜ Sound (now table) (now self) × (length (now items) ≡ N) × (N < 2 ^ 16) ⌝ }
+        ensures sound { λ _. ⌜ Sound (now (table .entry)) (now (self .exit)) ⌝ }
+        ensures stored { λ r. ⌜ Cases r ((spare (now (table .entry)) (now (self .entry)) ≡ []) × (now (self .exit) ≡ now (self .entry)) × (now (items .exit) ≡ now (items .entry))) (λ s. (spare (now (table .entry)) (now (self .entry)) ≡ s ∷ spare (now (table .entry)) (now (self .exit))) × (now (items .exit) ≡ set (now (items .entry)) s item)) ⌝ }
+        ensures owed { λ _. ⌜ now (self .exit) .owed ≡ now (self .entry) .owed ⌝ }
+        ensures len { λ r. ⌜ Cases r (now (self .exit) .queue .len ≡ now (self .entry) .queue .len) (λ _. now (self .exit) .queue .len + 1 ≡ now (self .entry) .queue .len) ⌝ }
+    {
+        let Some(drawn) = self.draw(table) else {
+            return None;
+        };
+        Some(self.fill(drawn, items, item))
+    }
+
     /// Makes an owed slot spare again, behind all others.
     pub fn give_back(&mut self, drawn: Drawn<N>, table: &mut [u16])
         requires { ⌜ Sound (now table) (now self) × (0 < now self .owed) × (N < 2 ^ 16) ⌝ }
