@@ -1,0 +1,4 @@
+pub mod DigitSteps
+pub mod WordSteps
+pub mod Decimals
+pub mod Pieces
