@@ -70,8 +70,11 @@ freed m = record { locked = false; gone = m .gone; shares = m .shares; count = m
 abbrev pub freedGone : Meaning → Meaning
 freedGone m = record { locked = false; gone = true; shares = m .shares; count = m .count + 1 }
 
+abbrev pub raised : Meaning → Meaning
+raised m = record { locked = m .locked; gone = false; shares = m .shares; count = m .count + 1 }
+
 abbrev pub revived : Meaning → Meaning
-revived m = cond (m .gone) (record { locked = m .locked; gone = false; shares = m .shares; count = m .count + 1 }) m
+revived m = cond (m .gone) (raised m) m
 
 -- Take answers the new word and the permit together, or the cause.
 abbrev pub Took : Face → Word → Result (Word × Permit) Cause → Type 0

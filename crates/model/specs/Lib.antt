@@ -1,0 +1,3 @@
+pub mod Refs
+pub mod Bytes
+pub mod Tree

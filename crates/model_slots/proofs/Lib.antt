@@ -1,0 +1,5 @@
+pub mod Lists
+pub mod Keeps
+pub mod Promised
+pub mod Words
+pub mod Told

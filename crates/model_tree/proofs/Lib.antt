@@ -1,0 +1,15 @@
+pub mod Bytes
+pub mod Reach
+pub mod Graft
+pub mod Turn
+pub mod Parts
+pub mod Adds
+pub mod Removes
+pub mod Moves
+pub mod Maps
+pub mod Start
+pub mod Looks
+pub mod Ready
+pub mod Aside
+pub mod Witness
+pub mod Theorems

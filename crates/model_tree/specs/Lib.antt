@@ -1,0 +1,4 @@
+pub mod Graft
+pub mod Writes
+pub mod Meets
+pub mod Theorems
