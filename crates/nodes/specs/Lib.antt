@@ -1,0 +1,5 @@
+pub mod View
+pub mod Listed
+pub mod Placing
+pub mod Kinds
+pub mod Kept
