@@ -9,6 +9,7 @@ mod texts;
 mod worked;
 
 pub use code::Code;
+pub use code::LONGEST_KEY;
 pub use codes::first;
 pub use coding::Coding;
 pub use coding::comes_before;
