@@ -1,0 +1,4 @@
+pub mod State
+pub mod Choices
+pub mod Items
+pub mod Steps
