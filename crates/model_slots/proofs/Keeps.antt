@@ -10,7 +10,8 @@ use borrow.Author.Tests.{eq-eqb, ne-eqb, eqb-true, eqb-false}
 use Rattle.std.specs.declared.option.Option.{Option}
 use Rattle.std.specs.declared.option.Option.the-variants.{Some, None}
 use Rattle.model.specs.Refs.{Ref, pool, is}
-use Rattle.model_slots.specs.Slots.{bit, both, not, count, has, tail, Record, refs, stamped, keep, late, clear, freed, State, Event, May, after, New, Run, history}
+use Rattle.model.specs.Records.{Record}
+use Rattle.model_slots.specs.Slots.{bit, both, not, count, has, tail, refs, stamped, keep, late, clear, freed, State, Event, May, after, New, Run, history}
 use Rattle.model_slots.specs.Slots.Event.{begin, answer, draw, back, write, sweep, other}
 use Rattle.model_slots.specs.Laws.{Mark, mark, swept, sweeps, opens, isSpare, isLinked, isRetired, isDrawn}
 use Rattle.model_slots.specs.Laws.Mark.{linked, spare, outside, drawn, retired}

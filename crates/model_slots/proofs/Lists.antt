@@ -11,7 +11,8 @@ use Rattle.std.proofs.shelf.Ways.{eqb-tells, tells}
 use Rattle.std.specs.declared.option.Option.{Option}
 use Rattle.std.specs.declared.option.Option.the-variants.{Some, None}
 use Rattle.model.specs.Refs.{Ref, same, pool, is}
-use Rattle.model_slots.specs.Slots.{bit, both, not, count, has, tail, Record, refs, stamped, keep, late, clear}
+use Rattle.model.specs.Records.{Record}
+use Rattle.model_slots.specs.Slots.{bit, both, not, count, has, tail, refs, stamped, keep, late, clear}
 
 pub is-tells : (x y : Ref) → ((is x y ≡ true) × (x ≡ y)) ⊎ ((is x y ≡ false) × (x ≡ y → ⊥))
 unfolding is

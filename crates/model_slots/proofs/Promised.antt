@@ -12,7 +12,8 @@ use borrow.Author.Tests.{eq-eqb, eqb-true, ltb-true, ltb-false, lt-ltb}
 use Rattle.std.specs.declared.option.Option.{Option}
 use Rattle.std.specs.declared.option.Option.the-variants.{Some, None}
 use Rattle.model.specs.Refs.{Ref, pool, is}
-use Rattle.model_slots.specs.Slots.{bit, both, not, count, has, Record, refs, keep, late, clear, freed, State, Event, May, after, Run, history}
+use Rattle.model.specs.Records.{Record}
+use Rattle.model_slots.specs.Slots.{bit, both, not, count, has, refs, keep, late, clear, freed, State, Event, May, after, Run, history}
 use Rattle.model_slots.specs.Slots.Event.{begin, answer, draw, back, write, sweep, other}
 use Rattle.model_slots.specs.Laws.{Mark, mark, swept, sweeps, opens, isSpare, isLinked, isRetired, isDrawn, Clear, Still, Waits, Linked, Spare, Drawn, Retired, One, Queued, Counted, Promise}
 use Rattle.model_slots.specs.Laws.Mark.{linked, spare, outside, drawn, retired}

@@ -5,6 +5,7 @@ use mathlib.Core.List.{List, [], _∷_, _++_, map}
 use Prim.Native.Nat.{ℕ, zero, suc, _+_, _<_, _≤_}
 use lib.Dec.{eqb, ltb}
 use lib.ListN.{length}
+use Rattle.model.specs.Records.{Record}
 use Rattle.model.specs.Refs.{Ref, pool, is}
 use Rattle.std.specs.declared.option.Option.{Option}
 use Rattle.std.specs.declared.option.Option.the-variants.{Some, None}
@@ -33,10 +34,6 @@ has x (y ∷ l) = cond (is x y) true (has x l)
 abbrev pub tail : List Ref → List Ref
 tail [] = []
 tail (y ∷ l) = l
-
-pub record Record : Type 0 where
-  pub ref : Ref
-  pub epoch : ℕ
 
 abbrev pub refs : List Record → List Ref
 refs [] = []

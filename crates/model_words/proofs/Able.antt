@@ -7,12 +7,13 @@ use Prim.Native.Nat.{ℕ, _+_, _-_, _<_, _≤_}
 use native.Mathlib.Omega.{arith}
 use Rattle.std.specs.declared.option.Option.{Option}
 use Rattle.std.specs.declared.option.Option.the-variants.{Some, None}
+use Rattle.model.specs.Holds.{Grip, Hold, put, letGoAll}
 use Rattle.model.specs.Refs.{Ref}
 use Rattle.latches.specs.declared.word.Meaning.{Meaning}
-use Rattle.model_words.specs.Words.{Grip, Hold, State, lockOf, weightOf, sum, Unheld, WordsOk}
-use Rattle.model_words.specs.Words.Grip.{Permit, Locked}
+use Rattle.model_words.specs.Words.{State, lockOf, weightOf, sum, Unheld, WordsOk}
+use Rattle.model.specs.Holds.Grip.{Permit, Locked}
 use Rattle.latches.specs.Rules.{shared, returned, held as shut, freed, freedGone, raised, revived}
-use Rattle.model_words.specs.Effects.{spot, Turn, MayTake, MayLock, Does, Run, put, seat-put, act, letGoAll, Released}
+use Rattle.model_words.specs.Effects.{spot, Turn, MayTake, MayLock, Does, Run, seat-put, act, Released}
 use Rattle.model_words.specs.Theorems.{Start, Able}
 use Rattle.model_words.proofs.Owners.{sum-none, free}
 use Rattle.model_words.proofs.Release.{put-same, put-else, seat-same, seat-else}

@@ -4,10 +4,11 @@ use mathlib.Core.List.{List}
 use mathlib.Core.Bool.{Bool, true, false}
 use Prim.Native.Nat.{ℕ, _+_, _<_, _≤_}
 use native.Mathlib.Omega.{arith}
+use Rattle.model.specs.Holds.{Grip, Hold}
 use Rattle.model.specs.Refs.{Ref}
 use Rattle.latches.specs.declared.word.Meaning.{Meaning}
-use Rattle.model_words.specs.Words.{Grip, Hold, State, In, Sound, SoundIn, Unheld, WordsOk}
-use Rattle.model_words.specs.Words.Grip.{Permit, Locked}
+use Rattle.model_words.specs.Words.{State, In, Sound, SoundIn, Unheld, WordsOk}
+use Rattle.model.specs.Holds.Grip.{Permit, Locked}
 use Rattle.model_words.specs.Effects.{Does, Run, Later}
 use Rattle.model_words.specs.Effects.Run.{stop, more}
 use Rattle.model_words.specs.Contents.{Course}

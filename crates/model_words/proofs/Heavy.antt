@@ -8,10 +8,11 @@ use native.Mathlib.Omega.{arith}
 use native.Mathlib.Decide.{ℕ-discrete}
 use Rattle.std.specs.declared.option.Option.{Option}
 use Rattle.std.specs.declared.option.Option.the-variants.{Some, None}
+use Rattle.model.specs.Holds.{Grip, Hold}
 use Rattle.model.specs.Refs.{Ref}
 use Rattle.latches.specs.declared.word.Meaning.{Meaning}
-use Rattle.model_words.specs.Words.{Grip, Hold, State, bit, lockOf, weightOf, In, Sound, WordsOk, HeavySound}
-use Rattle.model_words.specs.Words.Grip.{Permit, Locked}
+use Rattle.model_words.specs.Words.{State, bit, lockOf, weightOf, In, Sound, WordsOk, HeavySound}
+use Rattle.model.specs.Holds.Grip.{Permit, Locked}
 use Rattle.latches.specs.Rules.{shared, returned, held as shut, freed, freedGone, raised, revived}
 use Rattle.model_words.specs.Effects.{spot, Turn, Does, Run}
 use Rattle.model_words.specs.Effects.Does.{take, give, lock, unlock, unlockGone, revive, pass}

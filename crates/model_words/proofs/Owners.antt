@@ -6,10 +6,11 @@ use mathlib.Core.Bool.{Bool, true, false}
 use Prim.Native.Nat.{ℕ, zero, suc, _+_, _<_, _≤_}
 use native.Mathlib.Omega.{arith}
 use native.Mathlib.Decide.{ℕ-discrete}
+use Rattle.model.specs.Holds.{Grip, Hold}
 use Rattle.model.specs.Refs.{Ref, same}
 use Rattle.latches.specs.declared.word.Meaning.{Meaning}
-use Rattle.model_words.specs.Words.{Grip, Hold, State, only, bit, lockOf, weightOf, tally, total, sum, Every, In, Unheld, WordsOk}
-use Rattle.model_words.specs.Words.Grip.{Permit, Locked}
+use Rattle.model_words.specs.Words.{State, only, bit, lockOf, weightOf, tally, total, sum, Every, In, Unheld, WordsOk}
+use Rattle.model.specs.Holds.Grip.{Permit, Locked}
 use Rattle.model_words.proofs.Sums.{pick, only-no, tally-none, tally-in, total-zero, total-one, total-two}
 use Rattle.model_words.proofs.Keep.{bit-le, bit-false, bit-true}
 

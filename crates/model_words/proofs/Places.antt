@@ -5,12 +5,13 @@ use mathlib.Core.Logic.{_⊎_, inl, inr, ⊎-elim}
 use mathlib.Core.Bool.{Bool, true, false}
 use Prim.Native.Nat.{ℕ, _+_, _-_, _<_, _≤_}
 use native.Mathlib.Omega.{arith}
+use Rattle.model.specs.Holds.{Grip, Hold, put, letGo, letGoAll}
 use Rattle.model.specs.Refs.{Ref, same}
 use Rattle.latches.specs.declared.word.Meaning.{Meaning}
-use Rattle.model_words.specs.Words.{Grip, Hold, State, Every}
-use Rattle.model_words.specs.Words.Grip.{Permit, Locked}
+use Rattle.model_words.specs.Words.{State, Every}
+use Rattle.model.specs.Holds.Grip.{Permit, Locked}
 use Rattle.latches.specs.Rules.{shared, returned, held as shut, freed, freedGone, raised, revived}
-use Rattle.model_words.specs.Effects.{Turn, Does, put, letGo, letGoAll, Released}
+use Rattle.model_words.specs.Effects.{Turn, Does, Released}
 use Rattle.model_words.specs.Effects.Does.{take, give, lock, unlock, unlockGone, revive, pass}
 use Rattle.model_words.specs.Places.{Place, Barred, Suits, PlacesOk, Proper, NoneRetired}
 use Rattle.model_words.proofs.Sums.{pick}

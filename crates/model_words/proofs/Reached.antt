@@ -4,9 +4,10 @@ use mathlib.Core.List.{List, []}
 use mathlib.Core.Bool.{false}
 use Prim.Native.Nat.{ℕ, _+_, _<_, _≤_}
 use native.Mathlib.Omega.{arith}
+use Rattle.model.specs.Holds.{Hold}
 use Rattle.model.specs.Refs.{Ref}
 use Rattle.latches.specs.declared.word.Meaning.{Meaning}
-use Rattle.model_words.specs.Words.{Hold, State, Every, HeavySound, WordsOk}
+use Rattle.model_words.specs.Words.{State, Every, HeavySound, WordsOk}
 use Rattle.model_words.specs.Theorems.{Start, Calls, Reached}
 use Rattle.model_words.proofs.Owners.{free}
 use Rattle.model_words.proofs.Rely.{keeps-run}

@@ -6,12 +6,13 @@ use native.Mathlib.Omega.{arith}
 use native.Mathlib.Decide.{ℕ-discrete}
 use Rattle.std.specs.declared.option.Option.{Option}
 use Rattle.std.specs.declared.option.Option.the-variants.{Some, None}
+use Rattle.model.specs.Holds.{Grip, Hold, put, letGo, letGoAll}
 use Rattle.model.specs.Refs.{Kind, Ref, same}
 use Rattle.latches.specs.declared.word.Meaning.{Meaning}
-use Rattle.model_words.specs.Words.{Grip, Hold, State, Every, Unheld, WordsOk}
-use Rattle.model_words.specs.Words.Grip.{Permit, Locked}
+use Rattle.model_words.specs.Words.{State, Every, Unheld, WordsOk}
+use Rattle.model.specs.Holds.Grip.{Permit, Locked}
 use Rattle.latches.specs.Rules.{returned, freed}
-use Rattle.model_words.specs.Effects.{Turn, Does, Run, put, seat-put, act, letGo, letGoAll, Released}
+use Rattle.model_words.specs.Effects.{Turn, Does, Run, seat-put, act, Released}
 use Rattle.model_words.specs.Effects.Does.{give, unlock, pass}
 use Rattle.model_words.specs.Effects.Run.{stop, more}
 use Rattle.model_words.proofs.Rely.{keeps-run}

@@ -8,9 +8,10 @@ use native.Mathlib.Omega.{arith}
 use native.Mathlib.Decide.{ℕ-discrete}
 use Rattle.std.specs.declared.option.Option.{Option}
 use Rattle.std.specs.declared.option.Option.the-variants.{Some, None}
+use Rattle.model.specs.Holds.{Grip, Hold}
 use Rattle.model.specs.Refs.{Ref, same}
 use Rattle.latches.specs.declared.word.Meaning.{Meaning}
-use Rattle.model_words.specs.Words.{Grip, Hold, State, only, tally, total, sum, Every, In}
+use Rattle.model_words.specs.Words.{State, only, tally, total, sum, Every, In}
 use Rattle.model_words.specs.Effects.{spot, Turn}
 
 pub pick : {P : Type 0} (a b : Ref) → (a ≡ b → P) → ((a ≡ b → ⊥) → P) → P

@@ -1,9 +1,10 @@
 -- What nodes hold: written under a lock, or filled in where nobody holds the node.
 use mathlib.Core.Path.{_≡_}
 use Prim.Native.Nat.{ℕ, _<_}
+use Rattle.model.specs.Holds.{Grip, Hold}
 use Rattle.model.specs.Refs.{Ref}
-use Rattle.model_words.specs.Words.{Grip, Hold, State, In, Unheld}
-use Rattle.model_words.specs.Words.Grip.{Locked}
+use Rattle.model_words.specs.Words.{State, In, Unheld}
+use Rattle.model.specs.Holds.Grip.{Locked}
 use Rattle.model_words.specs.Effects.{Does}
 
 -- effects, writes and fillings one after another; each of the last two changes what one node holds

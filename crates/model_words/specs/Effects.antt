@@ -6,11 +6,12 @@ use Prim.Native.Nat.{ℕ, _+_, _-_, _<_, _≤_}
 use native.Mathlib.Decide.{ℕ-discrete}
 use Rattle.std.specs.declared.option.Option.{Option}
 use Rattle.std.specs.declared.option.Option.the-variants.{Some, None}
+use Rattle.model.specs.Holds.{Grip, Hold, put, letGoAll}
 use Rattle.model.specs.Refs.{Ref, same}
 use Rattle.latches.specs.declared.word.Meaning.{Meaning}
 use Rattle.latches.specs.Rules.{shared, returned, held as shut, freed, freedGone, raised, revived}
-use Rattle.model_words.specs.Words.{Grip, Hold, State, Sound, SoundIn, In}
-use Rattle.model_words.specs.Words.Grip.{Permit, Locked}
+use Rattle.model_words.specs.Words.{State, Sound, SoundIn, In}
+use Rattle.model.specs.Holds.Grip.{Permit, Locked}
 
 -- no entry or one
 abbrev pub spot : Ref → ℕ → Option Grip → List Hold
@@ -57,24 +58,12 @@ pub record Later (m n : Meaning) : Type 0 where
   pub rises : m .count ≤ n .count
   pub stays : m .count ≡ n .count → n .gone ≡ false → n .locked ≡ false → (m .gone ≡ false) × (m .locked ≡ false)
 
-abbrev pub put : (Ref → Meaning) → Ref → Meaning → Ref → Meaning
-put f x m y = elim (same y x) [ yes e ↦ m | no n ↦ f y ]
-
 abbrev pub seat-put : (ℕ → List Hold) → ℕ → List Hold → ℕ → List Hold
 seat-put f i hs j = elim (ℕ-discrete j i) [ yes e ↦ hs | no n ↦ f j ]
 
 -- seat i has the list hs and x the word m; t calls are accepted
 abbrev pub act : State → ℕ → Ref → List Hold → Meaning → ℕ → State
 act S i x hs m t = record { words = put (S .words) x m; held = seat-put (S .held) i hs; accepted = t }
-
-abbrev pub letGo : Grip → Meaning → Meaning
-letGo (Permit c w) m = returned w m
-letGo Locked m = freed m
-
--- all entries of a list let go, the first one first
-abbrev pub letGoAll : List Hold → (Ref → Meaning) → Ref → Meaning
-letGoAll [] f = f
-letGoAll (h ∷ hs) f = letGoAll hs (put f (h .at) (letGo (h .grip) (f (h .at))))
 
 -- a restart or an answer: seat i lets go of everything
 pub record Released (i : ℕ) (S T : State) : Type 0 where

@@ -3,10 +3,11 @@ use mathlib.Core.Path.{_≡_}
 use mathlib.Core.List.{List, [], _∷_, _++_}
 use mathlib.Core.Bool.{true, false}
 use Prim.Native.Nat.{ℕ, _+_, _<_, _≤_}
+use Rattle.model.specs.Holds.{Grip, Hold}
 use Rattle.model.specs.Refs.{Ref}
 use Rattle.latches.specs.declared.word.Meaning.{Meaning}
-use Rattle.model_words.specs.Words.{Grip, Hold, State, WordsOk, In, Unheld, OldIn, SoundIn, HeavySound}
-use Rattle.model_words.specs.Words.Grip.{Permit, Locked}
+use Rattle.model_words.specs.Words.{State, WordsOk, In, Unheld, OldIn, SoundIn, HeavySound}
+use Rattle.model.specs.Holds.Grip.{Permit, Locked}
 use Rattle.latches.specs.Rules.{revived}
 use Rattle.model_words.specs.Effects.{Does, Run, Later, Released, Rely, MayTake, MayLock}
 use Rattle.model_words.specs.Places.{Place, Suits, PlacesOk, Proper, NoneRetired}

@@ -6,19 +6,10 @@ use mathlib.Core.Bool.{Bool, true, false, cond}
 use Prim.Native.Nat.{ℕ, zero, suc, _+_, _-_, _<_, _≤_}
 use native.Mathlib.Decide.{ℕ-discrete}
 use Rattle.model.specs.Refs.{Ref, same}
+use Rattle.model.specs.Holds.{Grip, Hold}
 use Rattle.latches.specs.declared.word.Meaning.{Meaning}
 use Rattle.std.specs.declared.option.Option.{Option}
 use Rattle.std.specs.declared.option.Option.the-variants.{Some, None}
-
--- a permit with the count that it notes and its weight, or a lock
-pub data Grip : Type 0 where
-  Permit : ℕ → ℕ → Grip
-  Locked : Grip
-
-pub record Hold : Type 0 where
-  pub at : Ref
-  pub depth : ℕ
-  pub grip : Grip
 
 pub record State : Type 0 where
   pub words : Ref → Meaning

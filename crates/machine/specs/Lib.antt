@@ -1,0 +1,5 @@
+pub mod State
+pub mod Choices
+pub mod Items
+pub mod Steps
+pub mod Kept
