@@ -2,9 +2,10 @@
 
 ghost use mathlib.Core.Path.{_≡_};
 ghost use Prim.Native.Nat.{ℕ, _+_, _<_, _≤_};
-ghost use lib.ListN.{length, getD};
-ghost use Rattle.std.specs.Results.{Cases};
-ghost use Rattle.terms.specs.Numbers.{refusalNumber};
+ghost use lib.ListN.{length, getD, drop};
+ghost use Rattle.script.specs.Written.{written, fits, placeAfter, wrote};
+ghost use Rattle.player.specs.Histories.{longestScript, linesOf, printed, Added, AddedBy, Wrote};
+ghost use Rattle.player.specs.Lines.{Replied};
 use crate::key::NumberKeys;
 use crate::key::ScriptKey;
 use crate::key::TextKeys;
@@ -18,6 +19,7 @@ use latches::Latch;
 use latches::Optimistic;
 use latches::OptimisticLatch;
 use script::CodingName;
+use script::Header;
 use script::LatchName;
 use script::Place;
 use script::Reply;
@@ -45,15 +47,24 @@ fn line_end(script: &[u8], from: usize) -> usize
     script.len()
 }
 
-// Plays the lines behind the first on a just made index.
+// Writes the output line of a reply.
+fn put(number: u16, reply: Reply, out: &mut [u8], place: &mut Place) -> Result<(), Refusal>
+    ensures value { λ r. ⌜ r ≡ wrote (fits (now (out .entry)) (now (place .entry) .at) (printed number reply)) ⌝ }
+    ensures place { λ _. ⌜ now (place .exit) .at ≡ placeAfter (now (out .entry)) (now (place .entry) .at) (printed number reply) ⌝ }
+    ensures bytes { λ _. ⌜ now (out .exit) ≡ written (now (out .entry)) (now (place .entry) .at) (printed number reply) ⌝ }
+{
+    write_line(out, place, reply_line(number, reply).as_slice())
+}
+
+// Plays the lines from `first` on, on a just made index.
 fn play<C: ScriptKey, L: Latch>(
     script: &[u8],
     first: usize,
     out: &mut [u8],
     place: &mut Place,
 ) -> Result<(), Refusal>
-    requires { ⌜ (length (now script) < 65000) × (0 < first) × (now place .at ≤ length (now out)) ⌝ }
-    ensures { λ r. ⌜ Cases r (λ _. now (place .exit) .at ≤ length (now (out .exit))) (λ e. refusalNumber e ≡ 8) ⌝ }
+    requires { ⌜ (length (now script) ≤ longestScript) × (0 < first) × (now place .at ≤ length (now out)) ⌝ }
+    ensures { λ r. ⌜ Added (Replied face (C·Coding .accepts) (C·Coding .bytes) reads) (linesOf (drop first (now (script .entry)))) (now (out .entry)) (now (place .entry) .at) (now (out .exit)) (now (place .exit) .at) r ⌝ }
 {
     let mut index: Index<C, L> = Index::new();
     let mut number: u16 = 1;
@@ -62,7 +73,7 @@ fn play<C: ScriptKey, L: Latch>(
         let end = line_end(script, from);
         number += 1;
         let reply = reply_to(&mut index, &script[from..end]);
-        write_line(out, place, reply_line(number, reply).as_slice())?;
+        put(number, reply, out, place)?;
         from = end + 1;
     }
     Ok(())
@@ -71,55 +82,61 @@ fn play<C: ScriptKey, L: Latch>(
 /// Plays a script on a just made index and writes its history into `out`: how many bytes that took,
 /// or refusal 8 where it passes the end of `out`.
 pub fn history_of(script: &[u8], out: &mut [u8]) -> Result<usize, Refusal>
-    ensures { λ r. ⌜ Cases r (λ n. n ≤ length (now (out .exit))) (λ e. refusalNumber e ≡ 8) ⌝ }
+    ensures { λ r. ⌜ Wrote (now (script .entry)) (now (out .exit)) r ⌝ }
 {
     let mut place = Place { at: 0 };
     if script.len() > LONGEST_SCRIPT {
-        write_line(
-            out,
-            &mut place,
-            reply_line(1, Reply::Refused(Refusal::ScriptLength)).as_slice(),
-        )?;
+        put(1, Reply::Refused(Refusal::ScriptLength), out, &mut place)?;
         return Ok(place.at);
     }
     let end = line_end(script, 0);
     let header = match read_header(&script[0..end]) {
         Ok(header) => header,
         Err(refusal) => {
-            write_line(
-                out,
-                &mut place,
-                reply_line(1, Reply::Refused(refusal)).as_slice(),
-            )?;
+            put(1, Reply::Refused(refusal), out, &mut place)?;
             return Ok(place.at);
         }
     };
-    write_line(out, &mut place, reply_line(1, Reply::Accepted).as_slice())?;
+    put(1, Reply::Accepted, out, &mut place)?;
+    play_named(header, script, end + 1, out, &mut place)?;
+    Ok(place.at)
+}
+
+// With the coding and the latch that line 1 names.
+fn play_named(
+    header: Header,
+    script: &[u8],
+    first: usize,
+    out: &mut [u8],
+    place: &mut Place,
+) -> Result<(), Refusal>
+    requires { ⌜ (length (now script) ≤ longestScript) × (0 < first) × (now place .at ≤ length (now out)) ⌝ }
+    ensures { λ r. ⌜ AddedBy (header .coding) (header .latch) (linesOf (drop first (now (script .entry)))) (now (out .entry)) (now (place .entry) .at) (now (out .exit)) (now (place .exit) .at) r ⌝ }
+{
     match (header.coding, header.latch) {
         (CodingName::Number, LatchName::Optimistic) => play::<Numbers, Optimistic>(
             script,
-            end + 1,
+            first,
             out,
-            &mut place,
-        )?,
+            place,
+        ),
         (CodingName::Number, LatchName::Coupling) => play::<Numbers, Coupling>(
             script,
-            end + 1,
+            first,
             out,
-            &mut place,
-        )?,
+            place,
+        ),
         (CodingName::Text, LatchName::Optimistic) => play::<Texts, Optimistic>(
             script,
-            end + 1,
+            first,
             out,
-            &mut place,
-        )?,
+            place,
+        ),
         (CodingName::Text, LatchName::Coupling) => play::<Texts, Coupling>(
             script,
-            end + 1,
+            first,
             out,
-            &mut place,
-        )?,
+            place,
+        ),
     }
-    Ok(place.at)
 }

@@ -1,0 +1,4 @@
+mod ScriptLines
+mod Buffers
+mod Playing
+mod Heading
