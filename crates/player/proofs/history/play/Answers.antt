@@ -12,9 +12,6 @@ use Rattle.player.proofs.history.play.Needs as need
 pub loop-from-holds : need.loop-from-holds
 loop-from-holds g c = (omega arith, so-far-none _ _ _ _ _ (c .pre .2))
 
-pub add-number : need.add-number
-add-number g c = omega arith
-
 pub returns-in-Break-put : need.returns-in-Break-put
 returns-in-Break-put g c =
     let p = err-from-errBy (c .from-residual .result) (c .from-residual .ensures .1) in
