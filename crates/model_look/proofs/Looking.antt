@@ -26,7 +26,7 @@ use Rattle.model.specs.Tree.{Tree, child, prefix, Ghost}
 use Rattle.model.specs.Refs.Ref.{leaf, node}
 use Rattle.model_tree.specs.Meets.{Stands}
 use Rattle.model_tree.specs.Theorems.{Looks}
-use Rattle.model_tree.proofs.Bytes.{≼-under}
+use Rattle.model.proofs.Bytes.{≼-under}
 use Rattle.model_tree.proofs.Theorems.{tree-keeps}
 use Rattle.model_look.specs.Tells.{kindOf, refs, Shows, Walks, Missed, Goes-on, Tells, Told, Looks-tell, Walks-go}
 use Rattle.model_look.proofs.Meeting.{meeting}

@@ -20,8 +20,8 @@ use Rattle.model_next.specs.Look.{Hold, taken}
 use Rattle.model_next.specs.Next.{FirstFrom, NextOf, pairOf, Trail, Sound-now}
 use Rattle.model_next.specs.Walk.{Walk, on, scan, place, Seen}
 use Rattle.model_next.specs.Laws.{Order-laws, Tree-laws, One-answer, Bad, Walk-laws, Fresh-laws, Best, Good}
-use Rattle.model_next.proofs.Bytes.{snoc-byte}
-use Rattle.model_next.proofs.Reach
+use Rattle.model.proofs.Bytes.{snoc-byte}
+use Rattle.model.proofs.Reach
 use Rattle.model_next.proofs.Order.{first-not, first-trans, first-total, comes-first, first-comes, fork, larger-first, smaller-first, same-begins}
 use Rattle.model_next.proofs.Snapshot.{snapshot, leaf-best, min, fresh-look, fresh-look-back, fresh-look-down}
 use Rattle.model_next.proofs.Walks.{kept, stable, trail}

@@ -21,8 +21,8 @@ use Rattle.model_next.specs.Look.{Sight, stale, back, onward, aside, got, smal
 use Rattle.model_next.specs.Next.{FirstFrom, NextOf, pairOf, Past, Trail, Sound-now, Snapshot}
 use Rattle.model_next.specs.Walk.{look-key, look-back, look-down, on, newest, place, hold, Links, DownLinks, Seen}
 use Rattle.model_next.specs.Laws.{Best}
-use Rattle.model_next.proofs.Bytes.{none-some, some-inj, is-node, ≼-refl, ≼-app, ≼-trans, ≼-or, snoc-len}
-use Rattle.model_next.proofs.Reach
+use Rattle.model.proofs.Bytes.{none-some, some-inj, is-node, ≼-refl, ≼-app, ≼-trans, ≼-or, snoc-len}
+use Rattle.model.proofs.Reach
 use Rattle.model_next.proofs.Order.{first-not, first-asym, first-behind, begins-drop, drop-begins, fork, byte-at, larger-first, smaller-first, same-begins, ended-begins, begins-behind, nil-not-larger}
 use Rattle.model_next.proofs.Views.{Least, smallest-some, past-some, past-none, picks-got, picks-aside, down-view, back-view, Unfit, KeyView, key-view, picks-not, picked-not, picks-depth, back-fresh, smallest-fresh, under-fresh, has-smallest}
 

@@ -16,7 +16,7 @@ use Rattle.model.specs.Refs.Ref.{leaf, node}
 use Rattle.keys.specs.Bytes.{First}
 use Rattle.model_next.specs.Bytes.{comes, Compared, larger, smaller, ended, same, against}
 use Rattle.model_next.specs.Look.{Sight, stale, back, onward, aside, got, orElse, least, smallest, past, picks, picked, under, keyed, within, lookKey, lookBack, lookDown}
-use Rattle.model_next.proofs.Bytes.{none-some}
+use Rattle.model.proofs.Bytes.{none-some}
 use Rattle.model_next.proofs.Order.{comes-first, first-comes}
 
 abbrev pub Least : (ℕ → Option Ref) → ℕ → ℕ → Ref → Type 0

@@ -15,8 +15,8 @@ use Rattle.model.specs.Refs.Ref.{leaf, node}
 use Rattle.model.specs.Tree.Status.{linked, spare, drawn, retired}
 use Rattle.model_tree.specs.Graft.{In, All, KidOf, Wrote, Turned, Fits, Grown, Graft, Closed, UpTo}
 use Rattle.model_tree.specs.Writes.{Laws, Fresh, Fork, Insert, Split, Grow, Miss, After, Added}
-use Rattle.model_tree.proofs.Bytes.{none-some, some-inj, is-node, ≼-app, ≼-trans}
-use Rattle.model_tree.proofs.Reach.{past}
+use Rattle.model.proofs.Bytes.{none-some, some-inj, is-node, ≼-app, ≼-trans}
+use Rattle.model.proofs.Reach.{past}
 use Rattle.model_tree.proofs.Graft.{grafted, closed-after, count-put}
 use Rattle.model_tree.proofs.Turn.{Place, to, turn, turns, assign-same, assign-next}
 use Rattle.model_tree.proofs.Parts.{node-leaf, unlike, fan-put, short-of, fork-kids, fork-wide, fit-leaf, fit-node, grown-leaf, leaf-inj, added}

@@ -14,8 +14,8 @@ use Rattle.model.specs.Tree.{Tree, Entry, child, prefix, count, one, fan, cap, 
 use Rattle.model.specs.Refs.Ref.{leaf, node}
 use Rattle.model.specs.Tree.Status.{linked, spare, drawn, retired}
 use Rattle.model_tree.specs.Graft.{In, All, KidOf, Wrote, Turned, Fits, Grown, Graft, Closed, UpTo}
-use Rattle.model_tree.proofs.Bytes.{pick, none-some, some-inj, is-node, cons-nil, ≼-refl, ≼-of, ≼-app, ≼-trans, ≼-len, snoc-len}
-use Rattle.model_tree.proofs.Reach.{parent-one}
+use Rattle.model.proofs.Bytes.{pick, none-some, some-inj, is-node, cons-nil, ≼-refl, ≼-of, ≼-app, ≼-trans, ≼-len, snoc-len}
+use Rattle.model.proofs.Reach.{parent-one}
 
 pub all-in : (P : Ref → Type 0) (ys : List Ref) → All P ys → (x : Ref) → In x ys → P x
 all-in P [] h x i = absurd i

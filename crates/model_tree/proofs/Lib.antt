@@ -1,5 +1,3 @@
-pub mod Bytes
-pub mod Reach
 pub mod Graft
 pub mod Turn
 pub mod Parts

@@ -14,8 +14,8 @@ use Rattle.model.specs.Tree.{Tree, child, prefix, Ghost, Linked, TreeOk, Holds}
 use Rattle.model.specs.Refs.Ref.{leaf, node}
 use Rattle.model_tree.specs.Writes.{Laws}
 use Rattle.model_tree.specs.Meets.{Meet, Stands, Lacks}
-use Rattle.model_tree.proofs.Bytes.{none-some, some-inj, ≼-refl, ≼-app, ≼-of, ≼-trans, ≼-under, ≼-len, ≼-rest, snoc-byte, snoc-len}
-use Rattle.model_tree.proofs.Reach.{absent, present}
+use Rattle.model.proofs.Bytes.{none-some, some-inj, ≼-refl, ≼-app, ≼-of, ≼-trans, ≼-under, ≼-len, ≼-rest, snoc-byte, snoc-len}
+use Rattle.model.proofs.Reach.{absent, present}
 
 pub meet : (p r : List ℕ) → Meet p r
 meet [] [] = Meet.ends tt

@@ -8,7 +8,7 @@ use Rattle.std.specs.declared.option.Option.{Option}
 use Rattle.std.specs.declared.option.Option.the-variants.{Some, None}
 use Rattle.model.specs.Tree.{Tree, Ghost, Holds}
 use Rattle.model_tree.specs.Writes.{Added, Removed, Means, Put}
-use Rattle.model_tree.proofs.Bytes.{none-some, some-inj}
+use Rattle.model.proofs.Bytes.{none-some, some-inj}
 
 value-one : (n : List ℕ → Option ℕ) (j k : List ℕ) (u v : ℕ) → n k ≡ Some v → j ≡ k → u ≡ v → n j ≡ Some u
 value-one n j k u v e p q = ap n p ∙ e ∙ ap {B = Option ℕ} Some (sym q)

@@ -11,7 +11,7 @@ use Rattle.model.specs.Refs.{Ref, root, IsNode}
 use Rattle.model.specs.Tree.{Tree, Entry, child, prefix, fan, cap, Ghost, Linked, Retired, TreeOk, Holds}
 use Rattle.model.specs.Refs.Ref.{leaf, node}
 use Rattle.model_tree.specs.Writes.{Moves}
-use Rattle.model_tree.proofs.Bytes.{pick}
+use Rattle.model.proofs.Bytes.{pick}
 use Rattle.model_tree.proofs.Graft.{count-same}
 
 fan-still : (S T : Tree) (x : Ref) → ((c : ℕ) → child T x c ≡ child S x c) → fan T x ≡ fan S x

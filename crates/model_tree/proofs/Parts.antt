@@ -15,8 +15,8 @@ use Rattle.model.specs.Refs.Ref.{leaf, node}
 use Rattle.model.specs.Tree.Status.{linked, spare, drawn, retired}
 use Rattle.model_tree.specs.Graft.{In, All, KidOf, Wrote, Turned, Fits, Grown, Graft, Closed, UpTo}
 use Rattle.model_tree.specs.Writes.{Laws, Fork, Added, Removed}
-use Rattle.model_tree.proofs.Bytes.{none-some, some-inj, ≼-app, ≼-trans, ≼-len, snoc-len}
-use Rattle.model_tree.proofs.Reach.{key-one}
+use Rattle.model.proofs.Bytes.{none-some, some-inj, ≼-app, ≼-trans, ≼-len, snoc-len}
+use Rattle.model.proofs.Reach.{key-one}
 use Rattle.model_tree.proofs.Graft.{all-in, linked-drawn, count-put, linked-after}
 
 pub leaf-inj : (i j : ℕ) → leaf i ≡ leaf j → i ≡ j

@@ -15,7 +15,7 @@ use Rattle.model.specs.Refs.Ref.{leaf, node}
 use Rattle.model.specs.Tree.Status.{linked, spare, drawn, retired}
 use Rattle.model_tree.specs.Writes.{Laws, Fresh, Fork, Insert, Split, Grow, Miss, InPlace, Collapse}
 use Rattle.model_tree.specs.Meets.{Meet, Stands, Lacks}
-use Rattle.model_tree.proofs.Bytes.{none-some, some-inj, is-node, ≼-app, ≼-trans, ≼-under}
+use Rattle.model.proofs.Bytes.{none-some, some-inj, is-node, ≼-app, ≼-trans, ≼-under}
 use Rattle.model_tree.proofs.Parts.{count-one, count-two}
 use Rattle.model_tree.proofs.Graft.{count-put}
 use Rattle.model_tree.proofs.Looks.{way-of, cut-again, joined-again}

@@ -15,8 +15,8 @@ use Rattle.model.specs.Refs.Ref.{leaf, node}
 use Rattle.model.specs.Tree.Status.{linked, spare, drawn, retired}
 use Rattle.model_tree.specs.Graft.{In, All, KidOf, Wrote, Turned, Fits, Grown, Graft, Closed, UpTo}
 use Rattle.model_tree.specs.Writes.{InPlace, Collapse, After, Removed}
-use Rattle.model_tree.proofs.Bytes.{none-some, some-inj, is-node, ≼-app, ≼-trans}
-use Rattle.model_tree.proofs.Reach.{past, parent-one}
+use Rattle.model.proofs.Bytes.{none-some, some-inj, is-node, ≼-app, ≼-trans}
+use Rattle.model.proofs.Reach.{past, parent-one}
 use Rattle.model_tree.proofs.Graft.{grafted, closed-after}
 use Rattle.model_tree.proofs.Turn.{Place, turn, turns, assign-same}
 use Rattle.model_tree.proofs.Parts.{node-leaf, fan-put, fit-leaf, fit-node, leaf-inj, removed}

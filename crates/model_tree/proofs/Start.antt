@@ -12,7 +12,7 @@ use Rattle.model.specs.Refs.{Ref, root, IsNode}
 use Rattle.model.specs.Tree.{Tree, child, prefix, count, fan, cap, Ghost, Status, Linked, Retired, TreeOk, Holds}
 use Rattle.model.specs.Refs.Ref.{leaf, node}
 use Rattle.model.specs.Tree.Status.{linked, spare, drawn, retired}
-use Rattle.model_tree.proofs.Bytes.{none-some, pick}
+use Rattle.model.proofs.Bytes.{none-some, pick}
 use Rattle.model_tree.proofs.Turn.{choose, choose-in, choose-out}
 
 count-none : (f : ℕ → Option Ref) (n : ℕ) → ((c : ℕ) → f c ≡ None) → count f n ≡ 0

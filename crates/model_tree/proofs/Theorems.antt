@@ -6,7 +6,7 @@ use Prim.Native.Nat.{ℕ}
 use Rattle.model.specs.Refs.{Ref}
 use Rattle.model.specs.Tree.{prefix}
 use Rattle.model_tree.specs.Theorems.{Reads, Looks, Keeps, Mapped, Maps-keep, Tree-keeps}
-use Rattle.model_tree.proofs.Reach.{linked-is-reached, under, compared, path-one, key-one, full-one, parent-one, branch, absent, present}
+use Rattle.model.proofs.Reach.{linked-is-reached, under, compared, path-one, key-one, full-one, parent-one, branch, absent, present}
 use Rattle.model_tree.proofs.Graft.{grafted, closed-after, linked-after}
 use Rattle.model_tree.proofs.Adds.{insert-keeps, split-keeps, grow-keeps, miss-keeps}
 use Rattle.model_tree.proofs.Removes.{inplace-keeps, collapse-keeps}

@@ -16,7 +16,7 @@ use Rattle.model.specs.Tree.Status.{linked, spare, drawn, retired}
 use Rattle.model_tree.specs.Graft.{Wrote}
 use Rattle.model_tree.specs.Writes.{Laws, Fresh, Aside}
 use Rattle.model_tree.specs.Meets.{Stands}
-use Rattle.model_tree.proofs.Bytes.{pick, none-some}
+use Rattle.model.proofs.Bytes.{pick, none-some}
 use Rattle.model_tree.proofs.Turn.{choose, choose-in, choose-out}
 use Rattle.model_tree.proofs.Start.{first, starts, first-linked, first-retired}
 use Rattle.model_tree.proofs.Aside.{aside}

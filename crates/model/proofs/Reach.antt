@@ -7,11 +7,11 @@ use native.Mathlib.Omega.{arith}
 use lib.ListN.{length}
 use Rattle.std.specs.declared.option.Option.{Option}
 use Rattle.std.specs.declared.option.Option.the-variants.{Some, None}
 use Rattle.model.specs.Bytes.{_≼_}
 use Rattle.model.specs.Refs.{Ref, root, IsNode}
 use Rattle.model.specs.Tree.{Tree, child, Ghost, Linked, TreeOk, Holds, Reach}
 use Rattle.model.specs.Refs.Ref.{leaf, node}
-use Rattle.model_next.proofs.Bytes.{pick, none-some, some-inj, is-node, ≼-refl, ≼-of, ≼-app, ≼-trans, ≼-len, ≼-same, ≼-both, ≼-or, snoc-len, snoc-byte, snoc-inj}
+use Rattle.model.proofs.Bytes.{pick, none-some, some-inj, is-node, ≼-refl, ≼-of, ≼-app, ≼-trans, ≼-len, ≼-same, ≼-both, ≼-or, snoc-len, snoc-byte, snoc-inj}
 
 pub reach-on : (S : Tree) (x y z : Ref) → Reach S x y → Reach S y z → Reach S x z
 reach-on S x y _ r Reach.here = r
