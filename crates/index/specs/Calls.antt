@@ -26,7 +26,7 @@ use Rattle.index.specs.declared.tree.Tree.{Tree}
 use Rattle.index.specs.declared.index.Index.{Index}
 use Rattle.index.specs.Machine.{moved}
 use Rattle.index.specs.Meets.{Meets}
-use Rattle.index.specs.Sizes.{seatCount, callLimit}
+use Rattle.terms.specs.Limits.{seatCount, callLimit}
 use Rattle.index.specs.Sweeps.{Swept}
 use Rattle.index.specs.Trees.{Made}
 

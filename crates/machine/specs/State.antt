@@ -20,9 +20,10 @@ pub record State : Type 0 where
   pub calls : ℕ
   pub seats : ℕ → Seat
 
--- the numbers of a coding's keys and of a latch: the most bytes of a key, the most shares, and what a permit weighs
--- that is taken after so many restarts
+-- the numbers of an index: how many slots each pool has, the most bytes of a key, the most shares of a word, and what a
+-- permit weighs that is taken after so many restarts
 pub record Numbers : Type 0 where
+  pub slots : ℕ → ℕ
   pub deep : ℕ
   pub limit : ℕ
   pub weight : ℕ → ℕ

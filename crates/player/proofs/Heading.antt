@@ -24,7 +24,8 @@ use Rattle.script.specs.declared.reply.Reply.the-variants.{Accepted, Refused}
 use Rattle.script.specs.Header.{headerOf}
 use Rattle.index.specs.declared.seat.Seat.the-variants.{Closed}
 use Rattle.index.specs.Calls.{State, NewIndex}
-use Rattle.index.specs.Sizes.{seatCount, leafCount}
+use Rattle.terms.specs.Limits.{seatCount}
+use Rattle.index.specs.Sizes.{leafCount}
 use Rattle.index.specs.Trees.{noLeaf, noRecord}
 use Rattle.player.specs.Histories.{longestScript, linesOf, printed, stopped, PlayedBy, Headed, History, WroteAll, PassedEnd, AddedAll, AddedPart}
 use Rattle.player.proofs.Buffers.{Filled, Cut, filled-more, cut-more}
