@@ -893,7 +893,7 @@ KINDS = {
     "races": (script_of_races, 30),
     "scenes": (script_of_scenes, 25),
     "growing": (script_of_growing, 10),
-    "filling": (script_of_filling, 3),
+    "filling": (script_of_filling, 6),
     "faults": (script_of_faults, 8),
     "faulty": (None, 4),
 }
