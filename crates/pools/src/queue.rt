@@ -40,7 +40,8 @@ impl Queue {
     pub fn len(&self) -> usize
         ensures { λ r. ⌜ r ≡ now (self .entry) .len ⌝ }
     {
-        self.len
+        let Queue { len, .. } = *self;
+        len
     }
 
     /// Puts an element behind the last; where the table is full it only says so.
