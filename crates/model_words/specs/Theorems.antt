@@ -8,7 +8,7 @@ use Rattle.model.specs.Refs.{Ref}
 use Rattle.latches.specs.declared.word.Meaning.{Meaning}
 use Rattle.model_words.specs.Words.{State, WordsOk, In, Unheld, OldIn, SoundIn, HeavySound}
 use Rattle.model.specs.Holds.Grip.{Permit, Locked}
-use Rattle.latches.specs.Rules.{revived}
+use Rattle.latches.specs.Rules.{fresh, revived}
 use Rattle.model_words.specs.Effects.{Does, Run, Later, Released, Rely, MayTake, MayLock}
 use Rattle.model_words.specs.Places.{Place, Suits, PlacesOk, Proper, NoneRetired}
 use Rattle.model_words.specs.Contents.{Course}
@@ -16,11 +16,8 @@ use Rattle.model_words.specs.Contents.{Course}
 abbrev pub Anyone : ℕ → Type 0
 Anyone i = Unit {0}
 
-abbrev pub zero-word : Meaning
-zero-word = record { locked = false; gone = false; shares = 0; count = 0 }
-
 abbrev pub Start : State
-Start = record { words = λ x. zero-word; held = λ i. []; accepted = 0 }
+Start = record { words = λ x. fresh; held = λ i. []; accepted = 0 }
 
 pub record Keeps (limit : ℕ) : Type 0 where
   -- each effect, and any number of them
