@@ -1,5 +1,7 @@
 //! Plays each script that an argument names, and prints its history under its name.
 
+#![tactic(auto)]
+
 use player::history_of;
 use std::io::Write;
 use std::{env, fs};

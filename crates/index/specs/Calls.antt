@@ -2,7 +2,9 @@
 use Rattle.std.specs.Prelude.{◌≡◌, ℕ, ◌+◌, Bool, true, false, cond, List, replicate, Some, None, Ok, Err, Decides, Option, Result, nat_le, slice_index_or, slice_set}
 use Rattle.keys.specs.Codes.{coded}
 use Rattle.keys.specs.declared.code.Code.{Code}
+use Rattle.keys.specs.declared.coding.Coding as Coding
 use Rattle.latches.specs.Rules.{Face}
+use Rattle.latches.specs.declared.latch.Latch as Latch
 use Rattle.terms.specs.declared.Refusal.{Refusal}
 use Rattle.terms.specs.declared.Refusal.TheVariants.{NoSuchSeat, NotOpen, AlreadyOpen, Busy as SeatBusy, NoOperation, Key, CallLimit}
 use Rattle.terms.specs.declared.outcome.Outcome.{Outcome}
@@ -26,7 +28,7 @@ pub record State : Type 0 where
   pub seats : List Seat
   pub calls : ℕ
 
-abbrev pub state_of : {C K L : Type 0} → Index C K L → State
+abbrev pub state_of : {C K L : Type 0} {g : Coding.Ghosts C L} {h : Latch.Ghosts K} → Index C K L g h → State
 state_of i = record { tree = i.tree; seats = i.seats; calls = i.calls }
 
 abbrev pub seat_at : State → ℕ → Seat

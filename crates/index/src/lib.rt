@@ -3,6 +3,8 @@
 //! A step takes its seat's stage together with what it meets: `tree` does the work on memory, one function
 //! for each stage, and `seat` moves the seat on.
 
+#![tactic(auto)]
+
 mod index;
 mod meet;
 mod operation;

@@ -14,7 +14,7 @@ impl Tree {
         requires { Ready self.old }
         ensures ready { Ready self.new }
         ensures epoch { self.new.epoch ≡ self.old.epoch }
-        ensures met { Meets face key self.old self.new stage result }
+        ensures met { Meets L.face key self.old self.new stage result }
     {
         match stage {
             Stage::Take => match self.take::<L>() {

@@ -53,7 +53,7 @@ impl Tree {
     }
 
     pub(crate) fn take<L: Latch>(&mut self) -> Result<Permit, Cause>
-        ensures { Taken face self.old self.new result }
+        ensures { Taken L.face self.old self.new result }
     {
         let (word, permit) = L::take(self.word)?;
         self.word = word;
@@ -79,14 +79,14 @@ impl Tree {
     }
 
     pub(crate) fn give_back<L: Latch>(&mut self, permit: Permit)
-        ensures { GaveBack face permit self.old self.new }
+        ensures { GaveBack L.face permit self.old self.new }
     {
         self.word = L::give_back(self.word, permit);
     }
 
     /// Checks the permit and gives it back: the operation answers if it passes, and else starts again.
     pub(crate) fn check<L: Latch>(&mut self, permit: Permit) -> Result<(), Cause>
-        ensures { Checked face permit self.old self.new result }
+        ensures { Checked L.face permit self.old self.new result }
     {
         let passed = L::check(self.word, permit);
         self.word = L::give_back(self.word, permit);
@@ -94,7 +94,7 @@ impl Tree {
     }
 
     pub(crate) fn lock<L: Latch>(&mut self, permit: Permit) -> Result<(), Cause>
-        ensures { LockedNow face permit self.old self.new result }
+        ensures { LockedNow L.face permit self.old self.new result }
     {
         match L::lock(self.word, permit) {
             Ok(word) => {
@@ -112,7 +112,7 @@ impl Tree {
     pub(crate) fn draw<L: Latch>(&mut self, key: Code, course: Course) -> Result<u16, Kind>
         requires { Ready self.old }
         ensures ready { Ready self.new }
-        ensures drawn { DrawnFor face key self.old self.new course result }
+        ensures drawn { DrawnFor L.face key self.old self.new course result }
     {
         match course {
             Course::Insert(value) => self.draw_leaf::<L>(Leaf { key, value }),
@@ -124,7 +124,7 @@ impl Tree {
     fn draw_leaf<L: Latch>(&mut self, leaf: Leaf) -> Result<u16, Kind>
         requires { Ready self.old }
         ensures ready { Ready self.new }
-        ensures drawn { LeafDrawn face leaf.key leaf.value self.old self.new result }
+        ensures drawn { LeafDrawn L.face leaf.key leaf.value self.old self.new result }
     {
         match self.slots.store(&self.table, &mut self.leaves, leaf) {
             Some(slot) => Ok(slot),
@@ -139,7 +139,7 @@ impl Tree {
     fn draw_none<L: Latch>(&mut self) -> Kind
         requires { Ready self.old }
         ensures ready { Ready self.new }
-        ensures drawn { NothingDrawn face self.old self.new result }
+        ensures drawn { NothingDrawn L.face self.old self.new result }
     {
         let drawn = self.slots.draw(&self.table);
         self.word = L::unlock(self.word);
@@ -162,7 +162,7 @@ impl Tree {
     }
 
     pub(crate) fn unlock<L: Latch>(&mut self)
-        ensures { Unlocked face self.old self.new }
+        ensures { Unlocked L.face self.old self.new }
     {
         self.word = L::unlock(self.word);
     }

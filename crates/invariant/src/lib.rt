@@ -1,1 +1,3 @@
 //! What holds of the index after every call, and that every call keeps it.
+
+#![tactic(auto)]

@@ -39,7 +39,7 @@ pub trait Coding {
 
 /// Codes a key and decodes it again.
 pub fn round_trip<C: Coding>(key: C::Key) -> Result<C::Key, Refusal>
-    ensures { Back accepts key result }
+    ensures { Back C.accepts key result }
 {
     let code = C::encode(key)?;
     C::decode(code.as_slice())
@@ -47,7 +47,7 @@ pub fn round_trip<C: Coding>(key: C::Key) -> Result<C::Key, Refusal>
 
 /// Whether two keys are one, by their bytes.
 pub fn same_key<C: Coding>(a: C::Key, b: C::Key) -> Result<bool, Refusal>
-    ensures { SameKey accepts a b result }
+    ensures { SameKey C.accepts a b result }
 {
     let x = C::encode(a)?;
     let y = C::encode(b)?;
@@ -56,7 +56,7 @@ pub fn same_key<C: Coding>(a: C::Key, b: C::Key) -> Result<bool, Refusal>
 
 /// Whether one key comes before another, by their bytes.
 pub fn comes_before<C: Coding>(a: C::Key, b: C::Key) -> Result<bool, Refusal>
-    ensures { Placed accepts before a b result }
+    ensures { Placed C.accepts C.before a b result }
 {
     let x = C::encode(a)?;
     let y = C::encode(b)?;

@@ -1,5 +1,7 @@
 //! Key codings: keys become bytes whose byte order is the keys' order, and come back equal.
 
+#![tactic(auto)]
+
 mod code;
 mod codes;
 mod coding;

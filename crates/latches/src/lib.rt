@@ -1,5 +1,7 @@
 //! Latches: who may read a node and who may write it, kept in one 64-bit word for each node.
 
+#![tactic(auto)]
+
 mod coupling;
 mod latch;
 mod optimistic;

@@ -1,5 +1,7 @@
 //! What a walk for a key sees at a node.
 
+#![tactic(auto)]
+
 mod look_ops;
 mod seen;
 

@@ -1,5 +1,7 @@
 //! The index as a mathematical value: its calls, what each does, and the runs they make.
 
+#![tactic(auto)]
+
 ghost use Rattle.machine.specs.Kept.{StepsKeep};
 ghost use Rattle.machine.specs.Told.{HistoriesTell};
 
@@ -14,5 +16,5 @@ pub fn steps_keep()
 /// The history of a run tells how many calls were accepted, the epoch, and what each seat is: closed, idle, or busy with
 /// what it was asked.
 pub fn histories_tell<C: Coding>()
-    ensures { HistoriesTell accepts bytes }
+    ensures { HistoriesTell C.accepts C.bytes }
 {}

@@ -2,3 +2,5 @@
 //!
 //! No layout, no latch and no coding is in sight here. What is proved of it stands in the crates `model_tree`,
 //! `model_next`, `model_words` and `model_slots`.
+
+#![tactic(auto)]

@@ -1,5 +1,7 @@
 //! What a look at a node for a key says of the tree.
 
+#![tactic(auto)]
+
 ghost use Rattle.std.specs.Prelude.{◌≡◌};
 ghost use Rattle.keys.specs.Codes.{coded};
 ghost use Rattle.look.specs.Look.{looked};

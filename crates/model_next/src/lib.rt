@@ -1,5 +1,7 @@
 //! What `next` found is the first pair not below its key.
 
+#![tactic(auto)]
+
 ghost use Rattle.model_next.specs.Examples.{Sights};
 ghost use Rattle.model_next.specs.Laws.{OrderLaws, TreeLaws, WalkLaws, FreshLaws, OneAnswer};
 ghost use Rattle.model_next.specs.Next.{Snapshot};

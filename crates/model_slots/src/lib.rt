@@ -1,5 +1,7 @@
 //! Slots over a whole run, by what happened to them: linked, spare, drawn or retired, and only one of these.
 
+#![tactic(auto)]
+
 ghost use Rattle.model_slots.specs.Laws.{Promise};
 ghost use Rattle.model_slots.specs.Told.{Told};
 ghost use Rattle.model_slots.specs.Words.{Words};

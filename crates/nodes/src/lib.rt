@@ -1,5 +1,7 @@
 //! The four kinds of node behind one view (which child stands under each byte), and prefixes.
 
+#![tactic(auto)]
+
 mod across;
 mod branch;
 mod child;

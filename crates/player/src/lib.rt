@@ -1,5 +1,7 @@
 //! Plays a script on a just made index, and gives its history.
 
+#![tactic(auto)]
+
 mod history;
 mod key;
 mod reply;

@@ -1,5 +1,7 @@
 //! First-in first-out queues, and pools of slots that are drawn and given back.
 
+#![tactic(auto)]
+
 mod drawn;
 mod queue;
 mod slots;

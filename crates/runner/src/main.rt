@@ -1,5 +1,7 @@
 //! Reads a script from standard input, and prints its history.
 
+#![tactic(auto)]
+
 ghost use Rattle.std.specs.Prelude.{◌≤◌, length, IfOk};
 
 use anyhow::anyhow;

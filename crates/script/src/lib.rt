@@ -1,5 +1,7 @@
 //! Scripts and histories: what the lines of a script say, and how answers are written.
 
+#![tactic(auto)]
+
 mod call;
 mod digits;
 mod grammar;

@@ -1,5 +1,7 @@
 //! The words that every layer shares: refusals, causes and kinds, each with its number, and what a step comes to.
 
+#![tactic(auto)]
+
 mod outcome;
 
 ghost use Rattle.std.specs.Prelude.{◌≡◌};

@@ -1,1 +1,3 @@
 //! What the walk of `next` has seen, over nodes held with their grips.
+
+#![tactic(auto)]

@@ -69,20 +69,20 @@ impl<C: Coding, L: Latch> Index<C, L> {
 
     /// Begins a find: its steps come to the value of the key, or to its absence.
     pub fn begin_find(&mut self, seat: u8, key: C::Key) -> Result<(), Refusal>
-        ensures { DidBegin accepts bytes seat key FindTask (state_of self.old) (state_of self.new) result }
+        ensures { DidBegin C.accepts C.bytes seat key FindTask (state_of self.old) (state_of self.new) result }
     {
         self.begin(seat, key, Task::Find)
     }
 
     /// Begins an add: its steps put the key in with this value, unless it is there already.
     pub fn begin_add(&mut self, seat: u8, key: C::Key, value: u32) -> Result<(), Refusal>
-        ensures { DidBegin accepts bytes seat key (AddTask value) (state_of self.old) (state_of self.new) result }
+        ensures { DidBegin C.accepts C.bytes seat key (AddTask value) (state_of self.old) (state_of self.new) result }
     {
         self.begin(seat, key, Task::Add(value))
     }
 
     fn begin(&mut self, seat: u8, key: C::Key, task: Task) -> Result<(), Refusal>
-        ensures { DidBegin accepts bytes seat key task (state_of self.old) (state_of self.new) result }
+        ensures { DidBegin C.accepts C.bytes seat key task (state_of self.old) (state_of self.new) result }
     {
         let at = seat as usize;
         if at >= SEATS {
@@ -110,7 +110,7 @@ impl<C: Coding, L: Latch> Index<C, L> {
 
     /// Advances the operation of a seat by one step.
     pub fn step(&mut self, seat: u8) -> Result<Outcome, Refusal>
-        ensures { DidStep face seat (state_of self.old) (state_of self.new) result }
+        ensures { DidStep L.face seat (state_of self.old) (state_of self.new) result }
     {
         let at = seat as usize;
         if at >= SEATS {

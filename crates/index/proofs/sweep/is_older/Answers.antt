@@ -4,19 +4,19 @@ use Rattle.index.specs.Sweeps.{older}
 use Rattle.index.specs.declared.seat.Seat.TheVariants.{Closed}
 use Rattle.index.proofs.sweep.is_older.Goals as goal
 
-pub returns-then-not-began-after : goal.returns-then-not-began-after
-returns-then-not-began-after c =
+pub returns-then-not-began_after : goal.returns-then-not-began_after
+returns-then-not-began_after c =
     let ss = c.args.seats.now in
     let e = c.args.epoch in
     let i = c.loop-seat.seat-index in
-    ap (λ b. b && older (drop (i + 1) ss) e) c.if-not-began-after.ensures ∙ sym (at_drop_more (λ x. older x e) ss i Closed c.loop-seat-test.true) ∙ c.loop-seat.invariant
+    ap (λ b. b && older (drop (i + 1) ss) e) c.if-not-began_after.ensures ∙ sym (at_drop_more (λ x. older x e) ss i Closed c.loop-seat-test.true) ∙ c.loop-seat.invariant
 
 pub loop-seat-preserved : goal.loop-seat-preserved
 loop-seat-preserved c =
     let ss = c.args.seats.now in
     let e = c.args.epoch in
     let i = c.loop-seat.seat-index in
-    ap (λ b. b && older (drop (i + 1) ss) e) c.if-not-began-after.ensures ∙ sym (at_drop_more (λ x. older x e) ss i Closed c.loop-seat-test.true) ∙ c.loop-seat.invariant
+    ap (λ b. b && older (drop (i + 1) ss) e) c.if-not-began_after.ensures ∙ sym (at_drop_more (λ x. older x e) ss i Closed c.loop-seat-test.true) ∙ c.loop-seat.invariant
 
 pub returns : goal.returns
 returns c =

@@ -22,28 +22,28 @@ smaller p r i e h = sym (cond-true (ltb (get_or p i 0) (get_or r i 0)) Smaller L
 larger : (p r : List ℕ) (i : ℕ) → Parts i ≡ meet p r → get_or r i 0 ≤ get_or p i 0 → Larger ≡ rank p r
 larger p r i e h = sym (cond-false (ltb (get_or p i 0) (get_or r i 0)) Smaller Larger (le-ltb (get_or p i 0) (get_or r i 0) h)) ∙ ap (rank_by p r) e
 
-pub slice-bounds-rest-count : goal.slice-bounds-rest-count
-slice-bounds-rest-count c = begun _ _ _ _ _ c.as-slice.ensures c.in-Parts.ensures
+pub slice_bounds-rest-count : goal.slice_bounds-rest-count
+slice_bounds-rest-count c = begun _ _ _ _ _ c.as_slice.ensures c.in-Parts.ensures
 
-pub slice-bounds-rest-start : goal.slice-bounds-rest-start
-slice-bounds-rest-start c = begun _ _ _ _ _ c.as-slice.ensures c.in-Parts.ensures
+pub slice_bounds-rest-start : goal.slice_bounds-rest-start
+slice_bounds-rest-start c = begun _ _ _ _ _ c.as_slice.ensures c.in-Parts.ensures
 
 pub at-requires : goal.at-requires
 at-requires c = (parts_inside _ _ _ c.in-Parts.ensures).0
 
 pub bounds-rest-i : goal.bounds-rest-i
-bounds-rest-i c = rw (to_end _ _ _ c.as-slice.ensures) (parts_inside _ _ _ c.in-Parts.ensures).1
+bounds-rest-i c = rw (to_end _ _ _ c.as_slice.ensures) (parts_inside _ _ _ c.in-Parts.ensures).1
 
 pub returns-then-at-rest : goal.returns-then-at-rest
 returns-then-at-rest c =
     let i = c.in-Parts.i in
     let k = coded c.args.key.now in
-    let e = ap (λ r. get_or r i 0) (to_end c.args.d c.as-slice.result.now k c.as-slice.ensures) in
+    let e = ap (λ r. get_or r i 0) (to_end c.args.d c.as_slice.result.now k c.as_slice.ensures) in
     smaller (kept c.args.prefix.now) (drop c.args.d k) i c.in-Parts.ensures (omega arith)
 
 pub returns-else-at-rest : goal.returns-else-at-rest
 returns-else-at-rest c =
     let i = c.in-Parts.i in
     let k = coded c.args.key.now in
-    let e = ap (λ r. get_or r i 0) (to_end c.args.d c.as-slice.result.now k c.as-slice.ensures) in
+    let e = ap (λ r. get_or r i 0) (to_end c.args.d c.as_slice.result.now k c.as_slice.ensures) in
     larger (kept c.args.prefix.now) (drop c.args.d k) i c.in-Parts.ensures (omega arith)

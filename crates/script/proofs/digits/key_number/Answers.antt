@@ -7,4 +7,4 @@ use Rattle.script.proofs.digits.key_number.Goals as goal
 pub returns-in-45 : goal.returns-in-45
 returns-in-45 c =
     let e : get_or c.args.bytes.now 0 0 ≡ 45 = omega arith in
-    c.below-zero.ensures ∙ ap (λ l. as_neg (number_of (2 ^ 31) l)) (take_rest c.args.bytes.now 1) ∙ sym (cond-true _ _ _ (eq-eqb _ _ e))
+    c.below_zero.ensures ∙ ap (λ l. as_neg (number_of (2 ^ 31) l)) (take_rest c.args.bytes.now 1) ∙ sym (cond-true _ _ _ (eq-eqb _ _ e))

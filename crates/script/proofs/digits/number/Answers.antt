@@ -6,10 +6,10 @@ use Rattle.script.specs.Numbers.{value_on}
 use Rattle.script.proofs.DigitSteps.{none_digits, none_large, some_all, value_on_ge, value_step, digits_step}
 use Rattle.script.proofs.digits.number.Goals as goal
 
-pub returns-then-not-is-ascii-digit : goal.returns-then-not-is-ascii-digit
-returns-then-not-is-ascii-digit c =
+pub returns-then-not-is_ascii_digit : goal.returns-then-not-is_ascii_digit
+returns-then-not-is_ascii_digit c =
     none_digits c.args.most c.args.digits.now
-    (sym c.loop-b.invariant.1 ∙ digits_step c.args.digits.now c.loop-b.b-index c.loop-b-test.true ∙ and_left _ _ (sym c.if-not-is-ascii-digit.ensures.value))
+    (sym c.loop-b.invariant.1 ∙ digits_step c.args.digits.now c.loop-b.b-index c.loop-b-test.true ∙ and_left _ _ (sym c.if-not-is_ascii_digit.ensures.value))
 
 pub returns-then-value-most : goal.returns-then-value-most
 returns-then-value-most c =
@@ -20,7 +20,7 @@ pub loop-b-preserved : goal.loop-b-preserved
 loop-b-preserved c =
     let step = value_step c.loop-b.value c.args.digits.now c.loop-b.b-index c.loop-b-test.true in
     let test = digits_step c.args.digits.now c.loop-b.b-index c.loop-b-test.true in
-    let digit = c.if-not-is-ascii-digit.ensures.value in
+    let digit = c.if-not-is_ascii_digit.ensures.value in
     let one : (true && all_ascii_digits (drop (c.loop-b.b-index + 1) c.args.digits.now)) ≡ all_ascii_digits (drop (c.loop-b.b-index + 1) c.args.digits.now) = refl in
     (cc, cc, omega arith, c.loop-b.invariant.3)
 

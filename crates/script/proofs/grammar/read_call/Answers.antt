@@ -12,5 +12,5 @@ lettered line w rest short one word after =
 
 pub returns : goal.returns
 returns c =
-    c.by-letter.ensures
-    ∙ lettered c.args.line.now _ _ (omega arith) (omega (arith, ltb-true, ltb-false)) c.split-word-split.ensures.word c.split-word-split.ensures.rest
+    c.by_letter.ensures
+    ∙ lettered c.args.line.now _ _ (omega arith) (omega (arith, ltb-true, ltb-false)) c.split_word-split.ensures.word c.split_word-split.ensures.rest

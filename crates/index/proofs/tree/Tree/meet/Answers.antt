@@ -19,7 +19,7 @@ returns-in-Some g c = record { ready = c.requires; epoch = refl; met = at_stage 
 
 pub returns-in-None : goal.returns-in-None
 returns-in-None g c =
-    let h = c.give-back.ensures in
+    let h = c.give_back.ensures in
     record { ready = ready_word h.rest c.requires; epoch = h.rest.epoch; met = at_stage c.in-Look.is (Meets.ended c.in-None.ensures h) }
 
 pub returns-in-Ok-check : goal.returns-in-Ok-check

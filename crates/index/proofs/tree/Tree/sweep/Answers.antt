@@ -17,9 +17,9 @@ loop-i-preserved c =
     let x = get_or R i no_record in
     let inv = c.loop-i.invariant in
     let h : i < length R = omega (arith, length_contents s.records s.retired c.requires.0.1, c.len-n.ensures, c.loop-i-test.true) in
-    let one = c.sweep-one.ensures.one x (drop (i + 1) R ++ kept_by p (take i R)) (inv.1 ∙ first_left p R i no_record h) in
-    let b = c.sweep-one.result in (
-      c.sweep-one.ensures.ready,
+    let one = c.sweep_one.ensures.one x (drop (i + 1) R ++ kept_by p (take i R)) (inv.1 ∙ first_left p R i no_record h) in
+    let b = c.sweep_one.result in (
+      c.sweep_one.ensures.ready,
       one.retired ∙ ap (λ (t : Bool). (drop (i + 1) R ++ kept_by p (take i R)) ++ cond t [] (x ∷ [])) one.turns ∙ kept_more p R i no_record h,
       one.spare ∙ ap (λ ys. ys ++ cond b (x.slot ∷ []) []) inv.2 ∙ ap (λ (t : Bool). (spare_of s ++ freed_by p (take i R)) ++ cond t (x.slot ∷ []) []) one.turns ∙ spare_more p R i no_record h (spare_of s),
       ap (λ n. n + bool_byte b) inv.3 ∙ ap (λ (t : Bool). length (freed_by p (take i R)) + bool_byte t) one.turns ∙ count_more p R i no_record h,

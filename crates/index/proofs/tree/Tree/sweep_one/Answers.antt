@@ -8,8 +8,8 @@ use Rattle.index.specs.Trees.{Ours, retired_of, spare_of}
 use Rattle.index.proofs.Sweeping.{ours_first, ours_rest, ours_turned}
 use Rattle.index.proofs.tree.Tree.sweep_one.Goals as goal
 
-pub returns-else-is-older : goal.returns-else-is-older
-returns-else-is-older c =
+pub returns-else-is_older : goal.returns-else-is_older
+returns-else-is_older c =
     let s = c.args.self.now in
     let r = c.in-Some.record in
     let took = c.in-Some.ensures in
@@ -24,11 +24,11 @@ returns-else-is-older c =
           let whole : f ∷ os ≡ r ∷ rest (retired_of s) = sym e ∙ first_rest (retired_of s) r took.front in
           let same : f ≡ r = cc in
           let others : os ≡ rest (retired_of s) = cc in
-          record { turns = c.if-is-older.ensures ∙ ap (λ (x : Retired). older c.args.seats.now x.epoch) (sym same); spare = sym (append-nil (spare_of s)); retired = turned ∙ (cc); epoch = refl; rest = record { children = refl; word = refl; leaves = refl } };
+          record { turns = c.if-is_older.ensures ∙ ap (λ (x : Retired). older c.args.seats.now x.epoch) (sym same); spare = sym (append-nil (spare_of s)); retired = turned ∙ (cc); epoch = refl; rest = record { children = refl; word = refl; leaves = refl } };
     }
 
-pub returns-then-is-older : goal.returns-then-is-older
-returns-then-is-older c =
+pub returns-then-is_older : goal.returns-then-is_older
+returns-then-is_older c =
     let s = c.args.self.now in
     let r = c.in-Some.record in
     let took = c.in-Some.ensures in
@@ -44,7 +44,7 @@ returns-then-is-older c =
           let same : f ≡ r = cc in
           let others : os ≡ rest (retired_of s) = cc in
           record {
-            turns = done ∙ c.if-is-older.ensures ∙ ap (λ (x : Retired). older c.args.seats.now x.epoch) (sym same);
+            turns = done ∙ c.if-is_older.ensures ∙ ap (λ (x : Retired). older c.args.seats.now x.epoch) (sym same);
             spare = c.free.ensures.back ∙ rw done (ap (λ (x : Retired). spare_of s ++ x.slot ∷ []) (sym same));
             retired = took.queue ∙ sym others ∙ sym (append-nil os) ∙ ap (λ (t : Bool). os ++ cond t [] (f ∷ [])) (sym done);
             epoch = refl;

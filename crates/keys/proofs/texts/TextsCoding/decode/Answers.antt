@@ -3,8 +3,8 @@ use Rattle.std.proofs.lemmas.List.{same_from_push, length_push}
 use Rattle.keys.specs.Texts.{Plain, spelled}
 use Rattle.keys.proofs.texts.TextsCoding.decode.Goals as goal
 
-pub returns-in-default : goal.returns-in-default
-returns-in-default c = (refl, λ k h e. omega (arith, ap length e, length_push (spelled k) 0, c.in-default.ensures.cases))
+pub returns-in_default : goal.returns-in_default
+returns-in_default c = (refl, λ k h e. omega (arith, ap length e, length_push (spelled k) 0, c.in_default.ensures.cases))
 
 pub returns-then-last-ne0 : goal.returns-then-last-ne0
 returns-then-last-ne0 c = (

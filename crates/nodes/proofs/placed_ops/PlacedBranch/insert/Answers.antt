@@ -4,8 +4,8 @@ use Rattle.nodes.proofs.Views.{count_added}
 use Rattle.nodes.proofs.Places.{added_changed, added_inside, added_apart}
 use Rattle.nodes.proofs.placed_ops.PlacedBranch.insert.Goals as goal
 
-pub invariant-of-self : goal.invariant-of-self
-invariant-of-self c =
+pub invariant_of-self : goal.invariant_of-self
+invariant_of-self c =
     let s = c.args.self.now in
     let b = c.args.byte in
     let w = s.whole.0 in
@@ -13,7 +13,13 @@ invariant-of-self c =
     let d = s.counted in
     let h = added_changed s.len s.places s.children b c.args.child (omega arith) (omega arith) s.inside in
     let e = count_added _ _ b c.args.child (omega arith) c.requires h in
-    (omega arith, ((length-set _ _ _ ∙ w, length-set _ _ _ ∙ v), (added_inside s.len s.places b (omega arith) s.inside, (added_apart s.len s.places b (omega arith) s.inside s.apart, (omega arith, tt)))))
+    record {
+      fits = omega arith;
+      whole = (length-set _ _ _ ∙ w, length-set _ _ _ ∙ v);
+      inside = added_inside s.len s.places b (omega arith) s.inside;
+      apart = added_apart s.len s.places b (omega arith) s.inside s.apart;
+      counted = omega arith;
+    }
 
 pub returns : goal.returns
 returns c =

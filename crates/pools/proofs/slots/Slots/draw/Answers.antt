@@ -3,8 +3,8 @@ use Rattle.pools.specs.Spare.{Below}
 use Rattle.pools.proofs.Below.{below_rest, below_first, first_rest}
 use Rattle.pools.proofs.slots.Slots.draw.Goals as goal
 
-pub invariant-of-result : goal.invariant-of-result
-invariant-of-result g c = (below_first _ _ g.row.N c.requires.0.2 c.in-Some.ensures.front, tt)
+pub invariant_of-result : goal.invariant_of-result
+invariant_of-result g c = record { ours = below_first _ _ g.row.N c.requires.0.2 c.in-Some.ensures.front }
 
 pub returns-in-Some : goal.returns-in-Some
 returns-in-Some g c =

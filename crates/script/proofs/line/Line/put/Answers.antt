@@ -8,7 +8,7 @@ loop-b-preserved c = (
   omega arith,
   let more = take_more c.args.s.now c.loop-b.b-index 0 c.loop-b-test.true in
       let joined = append_assoc (line_text c.args.self.now) (take c.loop-b.b-index c.args.s.now) (get_or c.args.s.now c.loop-b.b-index 0 ∷ []) in
-      cc (more, joined, c.loop-b.invariant.1, c.put-byte.ensures.text),
+      cc (more, joined, c.loop-b.invariant.1, c.put_byte.ensures.text),
 )
 
 pub returns : goal.returns
