@@ -681,7 +681,7 @@ module _ (τ : State) {N : Numbers} {Key : List ℕ → Type 0} {σ : State} {g 
   row_goes (Row.takes_not x d c q a b) = absurd (none_some (sym (take_free x d q) ∙ a))
   row_goes (Row.checks_p p q a b c v) = goes_to o.mode (kept_p o.task o.held) look (kept_sound (is_next o.task) v (permits_here q))
   row_goes (Row.checks_p_not p c q a b w) = absurd (passes p c (parent_in o.mode o.held p a) b)
-  row_goes (Row.Looks-on hs n y d q a b c f v) = goes_to o.mode o.held (op.take y d) (still v)
+  row_goes (Row.looks_on hs n y d q a b c f v) = goes_to o.mode o.held (op.take y d) (still v)
   row_goes (Row.looks_decides hs n k q a b c f v) = goes_to o.mode o.held k (still v)
   row_goes (Row.looks_stale hs n q a b c w) = absurd (look_fresh q a hs n b c)
   row_goes {z} {r} (Row.checks_n a hs n q b c f w) = ended z r w

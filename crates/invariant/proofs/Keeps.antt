@@ -56,7 +56,7 @@ next_calm st (Row.takes_not x d c e t k) n u f = subst Permits (ap held_by (sym 
 next_calm {s = s} {o = o} st (Row.checks_p p e c t q w) n u f =
     subst Permits (ap held_by f) (subst (λ (a : Task). Permits (kept_p a o.held)) (sym n) (st.inv.calm s o st.was n))
 next_calm st (Row.checks_p_not p c e t q k) n u f = subst Permits (ap held_by (sym k.seat ∙ f)) tt
-next_calm {s = s} {o = o} st (Row.Looks-on hs x y d e t h k q w) n u f = subst Permits (ap held_by f) (st.inv.calm s o st.was n)
+next_calm {s = s} {o = o} st (Row.looks_on hs x y d e t h k q w) n u f = subst Permits (ap held_by f) (st.inv.calm s o st.was n)
 next_calm {s = s} {o = o} st (Row.looks_decides hs x k e t h l q w) n u f = subst Permits (ap held_by f) (st.inv.calm s o st.was n)
 next_calm st (Row.looks_stale hs x e t h q k) n u f = subst Permits (ap held_by (sym k.seat ∙ f)) tt
 next_calm st (Row.checks_n a hs x e h c q k) n u f = let y = k.seat in no_way cc

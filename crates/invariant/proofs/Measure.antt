@@ -241,7 +241,7 @@ module _ {N : Numbers} {Key : List ℕ → Type 0} {σ τ : State} {g : Ghosts} 
   row_falls u (Row.takes_not x d c q a b) e h = again_go _ c x d b.outcome h
   row_falls u (Row.checks_p x q a b c w) e h = to N o check_p look o.mode (kept_p o.task o.held) u q e (omega (arith, lowest_kept o.task o.held))
   row_falls u (Row.checks_p_not x c q a b w) e h = again_go _ c x.at x.depth w.outcome h
-  row_falls u (Row.Looks-on hs n y d q a b c f w) e h =
+  row_falls u (Row.looks_on hs n y d q a b c f w) e h =
       let l : lowest o.held ≡ n.depth = ap lowest b ∙ lowest_end hs n in
       let t = leads_onward N.deep σ.tree o.key n.at n.depth y d c in
       to N o look (op.take y d) o.mode o.held u q e (omega (arith, l, t.deeper, t.within))

@@ -442,7 +442,7 @@ module _ {N : Numbers} {Key : List ℕ → Type 0} {σ τ : State} {g : Ghosts} 
       subst (λ (v : Operation). SeatOk N Key τ g s v) p
       (subst (λ (l : List Hold). SeatOk N Key τ g s (to o o.mode l look)) (sym k) (check_ok st t c.tree (calm σ τ v) o.mode o.held o.stage (nexts_of st t) q i.reads))
   row_ok st t u (Row.checks_p_not x c q a b w) e = restart_ok st w u e
-  row_ok st t u (Row.Looks-on hs n y d q a b c f w) e = is_next_lem o.task t a
+  row_ok st t u (Row.looks_on hs n y d q a b c f w) e = is_next_lem o.task t a
   row_ok st t u (Row.looks_decides hs n k q a b c f w) e = is_next_lem o.task t a
   row_ok st t u (Row.looks_stale hs n q a b c w) e = is_next_lem o.task t a
   row_ok st t u (Row.checks_n a hs n q b c f w) e = idle_busy _ u w.seat e

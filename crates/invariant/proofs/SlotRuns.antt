@@ -93,7 +93,7 @@ Unlinks g (Row.takes x d e t s w) = Unit {0}
 Unlinks g (Row.takes_not x d e t s w) = Unit {0}
 Unlinks g (Row.checks_p p e t s q w) = Unit {0}
 Unlinks g (Row.checks_p_not p e t q s w) = Unit {0}
-Unlinks g (Row.Looks-on hs n y e t h q s k w) = Unit {0}
+Unlinks g (Row.looks_on hs n y e t h q s k w) = Unit {0}
 Unlinks g (Row.looks_decides hs n k e t h q s w) = Unit {0}
 Unlinks g (Row.looks_stale hs n e t h q s) = Unit {0}
 Unlinks g (Row.checks_n a hs n e h q s k) = Unit {0}
@@ -622,7 +622,7 @@ picked_none S o j keys (picks.got i) z e = let q : z ≡ with o o.mode o.held (o
 no_room_on : {N : Numbers} {h : List slots.Event} {σ τ : State} {s : ℕ} {o : Operation} {z : Seat} {c : Course} {q : ℕ} (ok : Has N h σ) → σ.seats s ≡ busy o → Turns σ τ s z → drawn_in o.stage ≡ []
     → (w : NoRoom σ τ o c q) → τ.retired ≡ σ.retired → z ≡ idle → Has N (no_room_events s w ++ h) τ
 no_room_on ok was t i (NoRoom.no_leaf e k) re q = answers_on ok was t i k re q
-no_room_on ok was t i (NoRoom.no_Node hs n kind j ls e k a b p) re q = gives_back ok was t (leaf j) ls i a p re q
+no_room_on ok was t i (NoRoom.no_node hs n kind j ls e k a b p) re q = gives_back ok was t (leaf j) ls i a p re q
 
 -- one step more
 module _ {N : Numbers} {Key : List ℕ → Type 0} {h : List slots.Event} {σ : State} {g : Ghosts} {s : ℕ} {o : Operation} (ok : Has N h σ) (was : σ.seats s ≡ busy o) (v : Inv N Key σ g)
@@ -643,7 +643,7 @@ module _ {N : Numbers} {Key : List ℕ → Type 0} {h : List slots.Event} {σ : 
   row_on t (Row.takes_not x d c e a w) u = restarts ok was t (ap drawn_in e) w
   row_on t (Row.checks_p p e a b q w) u = walks_on ok was t (ap drawn_in e) q refl refl
   row_on t (Row.checks_p_not p c e a b w) u = restarts ok was t (ap drawn_in e) w
-  row_on t (Row.Looks-on hs n y d e a b k q w) u = walks_on ok was t (ap drawn_in e) q refl refl
+  row_on t (Row.looks_on hs n y d e a b k q w) u = walks_on ok was t (ap drawn_in e) q refl refl
   row_on t (Row.looks_decides hs n k e a b f q w) u =
       walks_on ok was t (ap drawn_in e) q (sym (ap drawn_at f) ∙ decided_none σ.tree o.key n o.task (sight.seen N.deep σ.tree o.key n.at n.depth)) refl
   row_on t (Row.looks_stale hs n e a b k w) u = restarts ok was t (ap drawn_in e) w

@@ -305,7 +305,7 @@ no_room_marks : {N : Numbers} {Key : List ℕ → Type 0} {σ τ : State} {g : G
     → ((x : Ref) → g.mark x ≡ mark root all h x) → sweeps h ≡ σ.epoch → (x : Ref) → g.mark x ≡ mark root all (no_room_events s t ++ h) x
 unfolding mark
 no_room_marks st (NoRoom.no_leaf e k) all h m f x = m x
-no_room_marks {g = g} {s = s} st (NoRoom.no_Node hs n kind i ls e k a b p) all h m f x = ⊎_elim
+no_room_marks {g = g} {s = s} st (NoRoom.no_node hs n kind i ls e k a b p) all h m f x = ⊎_elim
     (λ y. ap g.mark y.1 ∙ head_spare st.inv (leaf i) 1 ls a ∙ ap (λ (t : Bool). cond t spare (cond t (drawn s) (mark root all h x))) (sym y.0))
     (λ y. m x ∙ ap (λ (t : Bool). cond t spare (cond t (drawn s) (mark root all h x))) (sym y.0))
     (is_tells x (leaf i))
@@ -325,9 +325,9 @@ step_keeps {σ = σ} {τ = τ} {g = g} {o = o} st (Row.checks_p p e f c q w) =
 step_keeps {o = o} st (Row.checks_p_not p c e f t k) =
     let n : (c : Course) (is : List Item) (d : Option Drawn) → o.stage ≡ act c is d → ⊥ = λ c is d f. no_way cc in
     restarted st (Row.checks_p_not p c e f t k) c p.at p.depth k (no_flux_by st n) (λ all h m k y. m y) tt (λ f. f)
-step_keeps {σ = σ} {τ = τ} {g = g} {o = o} st (Row.Looks-on hs x y d e t h k q w) =
+step_keeps {σ = σ} {τ = τ} {g = g} {o = o} st (Row.looks_on hs x y d e t h k q w) =
     let n : (c : Course) (is : List Item) (d : Option Drawn) → o.stage ≡ act c is d → ⊥ = λ c is d f. no_way cc in
-    quiet st (Row.Looks-on hs x y d e t h k q w) q.tree (no_flux_by st n) (seat_kept st (Row.Looks-on hs x y d e t h k q w) n) (λ all h m k y. m y) tt (same_holds σ τ g q.tree)
+    quiet st (Row.looks_on hs x y d e t h k q w) q.tree (no_flux_by st n) (seat_kept st (Row.looks_on hs x y d e t h k q w) n) (λ all h m k y. m y) tt (same_holds σ τ g q.tree)
 step_keeps {σ = σ} {τ = τ} {g = g} {o = o} st (Row.looks_decides hs x k e t h l q w) =
     let n : (c : Course) (is : List Item) (d : Option Drawn) → o.stage ≡ act c is d → ⊥ = λ c is d f. no_way cc in
     quiet st (Row.looks_decides hs x k e t h l q w) q.tree (no_flux_by st n) (seat_kept st (Row.looks_decides hs x k e t h l q w) n) (λ all h m k y. m y) tt (same_holds σ τ g q.tree)

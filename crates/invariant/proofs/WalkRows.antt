@@ -413,10 +413,10 @@ walk_ok {N} {Key} {σ} {τ} {g} {s} {o} st t n (Row.checks_p p e f c q w) =
     (Aims.at_none (λ y d z. no_way cc))
     (passed st t (carried q) (was_sound st (Row.checks_p p e f c q w)) a (subst (λ (h : Hold). SoundAt σ h) same (sound_by σ p c)) (kept_p o.task o.held) kept)
 walk_ok {u = u} st t n (Row.checks_p_not p c e f k q) = restart_ok st q u refl
-walk_ok {N} {Key} {σ} {τ} {g} {s} {o} st t n (Row.Looks-on hs h y d e f k m q w) =
+walk_ok {N} {Key} {σ} {τ} {g} {s} {o} st t n (Row.looks_on hs h y d e f k m q w) =
     let a = at_look o.held o.stage (walk st t).1 e in
     let same = (snoc_one hs a.above_n h a.n (sym k ∙ a.held)).1 in
-    let l = led_on st t (carried q) (was_sound st (Row.Looks-on hs h y d e f k m q w)) a y d (ap (λ (v : Hold). seen N.deep σ.tree o.key v.at v.depth) (sym same) ∙ m) in
+    let l = led_on st t (carried q) (was_sound st (Row.looks_on hs h y d e f k m q w)) a y d (ap (λ (v : Hold). seen N.deep σ.tree o.key v.at v.depth) (sym same) ∙ m) in
     seat_ok st t (carried q) (walk st t).0 (was_ok st t).reads (Aims.at y d l.0) l.1
 walk_ok {N} {Key} {σ} {τ} {g} {s} {o} st t n (Row.looks_decides hs h k e f l m q w) =
     let a = at_look o.held o.stage (walk st t).1 e in

@@ -49,7 +49,7 @@ fn play<C: ScriptKey, L: Latch>(
     place: &mut Place,
 ) -> Result<(), Refusal>
     requires { (length script.now ≤ longest_script) × (0 < first) × (place.old.at ≤ length out.old) }
-    ensures { Added (Replied face C.Coding.accepts C.Coding.bytes reads) (lines_of (drop first script.now)) out.old place.old.at out.new place.new.at result }
+    ensures { Added (Replied L.face C.accepts C.bytes C.reads) (lines_of (drop first script.now)) out.old place.old.at out.new place.new.at result }
 {
     let mut index: Index<C, L> = Index::new();
     let mut number: u16 = 1;

@@ -40,7 +40,7 @@ fn swept(answer: Result<u16, Refusal>) -> Reply
 }
 
 fn find<C: ScriptKey, L: Latch>(index: &mut Index<C, L>, seat: u8, word: Word<'_>) -> Reply
-    ensures { BeginReplied C.Coding.accepts C.Coding.bytes reads seat (word_meant word.entry) FindTask (state_of index.old) (state_of index.new) result }
+    ensures { BeginReplied C.accepts C.bytes C.reads seat (word_meant word.entry) FindTask (state_of index.old) (state_of index.new) result }
 {
     match C::read_key(word) {
         Some(key) => plain(index.begin_find(seat, key)),
@@ -54,7 +54,7 @@ fn add<C: ScriptKey, L: Latch>(
     word: Word<'_>,
     value: u32,
 ) -> Reply
-    ensures { BeginReplied C.Coding.accepts C.Coding.bytes reads seat (word_meant word.entry) (AddTask value) (state_of index.old) (state_of index.new) result }
+    ensures { BeginReplied C.accepts C.bytes C.reads seat (word_meant word.entry) (AddTask value) (state_of index.old) (state_of index.new) result }
 {
     match C::read_key(word) {
         Some(key) => plain(index.begin_add(seat, key, value)),
@@ -63,7 +63,7 @@ fn add<C: ScriptKey, L: Latch>(
 }
 
 fn make<C: ScriptKey, L: Latch>(index: &mut Index<C, L>, call: Call<'_>) -> Reply
-    ensures { CallReplied face C.Coding.accepts C.Coding.bytes reads (call_meant call.entry) (state_of index.old) (state_of index.new) result }
+    ensures { CallReplied L.face C.accepts C.bytes C.reads (call_meant call.entry) (state_of index.old) (state_of index.new) result }
 {
     match call {
         Call::Open(seat) => plain(index.open(seat)),
@@ -77,7 +77,7 @@ fn make<C: ScriptKey, L: Latch>(index: &mut Index<C, L>, call: Call<'_>) -> Repl
 
 /// Makes the call that a line asks for, and says what it is answered with.
 pub fn reply_to<C: ScriptKey, L: Latch>(index: &mut Index<C, L>, line: &[u8]) -> Reply
-    ensures { Replied face C.Coding.accepts C.Coding.bytes reads line.now (state_of index.old) (state_of index.new) result }
+    ensures { Replied L.face C.accepts C.bytes C.reads line.now (state_of index.old) (state_of index.new) result }
 {
     match read_call(line) {
         Ok(call) => make(index, call),

@@ -182,7 +182,7 @@ scanned {N = N} {σ = σ} {τ = τ} {o = o} z r u i a w e t q = row z r w e
     row y p (Row.takes_not x d e g t s) h = restarts y p s h
     row _ _ (Row.checks_p p g e t s w) h = not _ refl h
     row y p (Row.checks_p_not x e g q t s) h = restarts y p s h
-    row _ _ (Row.Looks-on hs n y e g t h q s w) k = not _ refl k
+    row _ _ (Row.looks_on hs n y e g t h q s w) k = not _ refl k
     row _ _ (Row.looks_decides hs n k g f h x s w) v = let y : o.task ≡ op.next = cc in true_false (is_next o.task) (ap is_next y) f
     row y p (Row.looks_stale hs n g t h q s) k = restarts y p s k
     row y p (Row.checks_n a hs n g h q s e) k = ends y p e k
@@ -224,7 +224,7 @@ last_check a (Row.takes x d g t s w) f = no_way cc
 last_check a (Row.takes_not x d e g t s) f = no_way cc
 last_check a (Row.checks_p p g e t s w) f = no_way cc
 last_check a (Row.checks_p_not p e g q t s) f = no_way cc
-last_check a (Row.Looks-on hs n y e g t h q s w) f = no_way cc
+last_check a (Row.looks_on hs n y e g t h q s w) f = no_way cc
 last_check a (Row.looks_decides hs n k g t h q s w) f = no_way cc
 last_check a (Row.looks_stale hs n g t h q s) f = no_way cc
 last_check a (Row.checks_n b hs n g h q s e) f = no_way cc

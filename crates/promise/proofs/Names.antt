@@ -420,7 +420,7 @@ module _ {N : Numbers} {Key : List ℕ → Type 0} {σ : State} {g : Ghosts} {s 
   row_moves (Row.takes_not x d c e t k) = restart_moves k (ap decided_on e)
   row_moves (Row.checks_p p e f c q w) = open_moves o _ (ap decided_on e) (refl, λ i a e. no_way cc)
   row_moves (Row.checks_p_not p c e f t k) = restart_moves k (ap decided_on e)
-  row_moves (Row.Looks-on hs x y d e t h k q w) = open_moves o _ (ap decided_on e) (take_open y d)
+  row_moves (Row.looks_on hs x y d e t h k q w) = open_moves o _ (ap decided_on e) (take_open y d)
   row_moves (Row.looks_decides hs x k e t h l q w) = open_moves o _ (ap decided_on e) (subst OpenStage l (decided_open σ.tree o.key x o.task _))
   row_moves (Row.looks_stale hs x e t h q k) = restart_moves k (ap decided_on e)
   row_moves (Row.checks_n a hs x e h c q k) = Moves.says a k.seat k.outcome refl (ap decided_on e)

@@ -36,14 +36,14 @@ after_item s (Follows.over e) = answer s ∷ []
 
 abbrev pub no_room_events : {σ τ : State} {o : Operation} {c : Course} {q : ℕ} → ℕ → NoRoom σ τ o c q → List Event
 no_room_events s (NoRoom.no_leaf e k) = answer s ∷ []
-no_room_events s (NoRoom.no_Node hs n kind i ls e k a b p) = answer s ∷ back s (leaf i) ∷ draw s (leaf i) ∷ []
+no_room_events s (NoRoom.no_node hs n kind i ls e k a b p) = answer s ∷ back s (leaf i) ∷ draw s (leaf i) ∷ []
 
 abbrev pub row_events : {N : Numbers} {σ τ : State} {o : Operation} {z : Seat} {r : Outcome} → ℕ → Row N σ τ o z r → List Event
 row_events s (Row.takes x d g t q w) = []
 row_events s (Row.takes_not x d e g t q) = []
 row_events s (Row.checks_p p g e t q w) = []
 row_events s (Row.checks_p_not p e g q t w) = []
-row_events s (Row.Looks-on hs n y e g t h q k w) = []
+row_events s (Row.looks_on hs n y e g t h q k w) = []
 row_events s (Row.looks_decides hs n k g t h q l w) = []
 row_events s (Row.looks_stale hs n g t h q k) = []
 row_events s (Row.checks_n a hs n g h q k e) = answer s ∷ []
