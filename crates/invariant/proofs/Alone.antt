@@ -36,6 +36,7 @@ use Rattle.model_slots.specs.Laws.{Mark}
 use Rattle.model_slots.specs.Slots.{count}
 use Rattle.model_slots.proofs.Lists.{true_bit, is_self}
 use Rattle.invariant.proofs.Locking.{acting, left_child, collapse_left, pair_items, stood}
+use Rattle.walks.specs.Look as looks
 use Rattle.walks.specs.Walk as walk
 use Rattle.model_next.specs.Look.{key_sight, back_sight, down_sight}
 use Rattle.walks.proofs.Walks as walks
@@ -417,8 +418,8 @@ module _ {N : Numbers} {Key : List ℕ → Type 0} {σ : State} {g : Ghosts} {s 
       let k = all_good (f ∷ hs) a p in
       let u : j ≡ n = cc in
       let z : walk.place f hs n ≡ x = nth_place f hs n x (subst₂ (λ (v : List Hold) (t : ℕ). slice_get v t ≡ Some x) (sym he) u b) in
-      fresh_look_back l.inv.tree key_bytes Good o.key still_good f hs n (picks.taken o.key y) (seen_good (walk.on f hs [] (walk.look_back n)) w) k.0 k.1
-      (subst (λ (h : Hold). back_sight N.deep σ.tree (picks.taken o.key y) h.at h.depth ≡ picks.stale) (sym z) q)
+      fresh_look_back l.inv.tree key_bytes Good o.key still_good f hs n (looks.taken o.key y) (seen_good (walk.on f hs [] (walk.look_back n)) w) k.0 k.1
+      (subst (λ (h : Hold). back_sight N.deep σ.tree (looks.taken o.key y) h.at h.depth ≡ picks.stale) (sym z) q)
   nexts_fresh _ _ _ (Nexts.look_back f hs n w r i) e me he a p _ _ _ _ (Sees.going_down at keys x m b) q = no_way cc
   nexts_fresh _ _ _ (Nexts.take_down f hs ds n y d w r r' b i nr) e me he a p x j keys v se q = no_way cc
   nexts_fresh _ _ _ (Nexts.check_down f hs h ds n w r r' b) e me he a p x j keys v se q = no_way cc

@@ -25,6 +25,7 @@ use Rattle.walks.proofs.Same.{stays}
 use Rattle.walks.proofs.Walks as walks
 use Rattle.model_next.proofs.Views.{smallest_some, past_some, down_view, back_view, picks_not, picked_not}
 use Rattle.model_slots.proofs.Lists.{is_tells, is_self}
+use Rattle.walks.specs.Look as looks
 use Rattle.walks.specs.Walk as walk
 use Rattle.walks.specs.Walk.{Walk, start, on, Goes, Stays}
 use Rattle.invariant.proofs.WalkRows.{restart_ok}
@@ -365,13 +366,13 @@ module _ {N : Numbers} {Key : List ℕ → Type 0} {σ τ : State} {g : Ghosts} 
       let i : j ≡ n = cc in
       let e : walk.place f hs n ≡ x = nth_place f hs n x (subst₂ (λ (l : List Hold) (i : ℕ). slice_get l i ≡ Some x) (sym he) i b) in
       let d : walk.place f hs (suc n) ≡ y = nth_place f hs (suc n) y (subst₂ (λ (l : List Hold) (i : ℕ). slice_get l i ≡ Some y) (sym he) (ap suc i) c) in
-      let v : Sight = back_sight N.deep σ.tree (picks.taken o.key y) x.at x.depth in
-      let a = goes (on f hs [] (walk.look_back n)) (walk.looked f hs n (back_sight N.deep σ.tree (picks.taken o.key (walk.place f hs (suc n))) (walk.place f hs n).at (walk.place f hs n).depth)) w Goes.looks_back in
+      let v : Sight = back_sight N.deep σ.tree (looks.taken o.key y) x.at x.depth in
+      let a = goes (on f hs [] (walk.look_back n)) (walk.looked f hs n (back_sight N.deep σ.tree (looks.taken o.key (walk.place f hs (suc n))) (walk.place f hs n).at (walk.place f hs n).depth)) w Goes.looks_back in
       looked_ok f hs n x v u he (omega (arith, l)) (reads_of x (subst (λ (l : List Hold). In x l) he (subst (λ (y : Hold). In y (f ∷ hs)) e (in_place' f hs n))))
-      (back_shows N.deep σ.tree o.key x (picks.taken o.key y))
-      (λ z d t. absurd (picked_not (picks.past σ.tree x.at (picks.taken o.key y)) _ z d (back_view N.deep σ.tree (picks.taken o.key y) x.at x.depth (picks.onward z d) t (λ q. no_way cc))))
+      (back_shows N.deep σ.tree o.key x (looks.taken o.key y))
+      (λ z d t. absurd (picked_not (picks.past σ.tree x.at (looks.taken o.key y)) _ z d (back_view N.deep σ.tree (looks.taken o.key y) x.at x.depth (picks.onward z d) t (λ q. no_way cc))))
       (λ l. r)
-      (subst₂ (λ (p c : Hold). Saw N τ g o (walk.looked f hs n (back_sight N.deep σ.tree (picks.taken o.key c) p.at p.depth))) e d a)
+      (subst₂ (λ (p c : Hold). Saw N τ g o (walk.looked f hs n (back_sight N.deep σ.tree (looks.taken o.key c) p.at p.depth))) e d a)
       (subst₂ (λ (i n : ℕ). picked σ.tree o i n v ≡ Some (busy u)) i (sym (ap length he)) p)
   pick_ok u _ _ _ (Nexts.look_back f hs n w r l) q me he _ _ _ _ (Sees.going_down at keys x m b) p = no_way cc
   pick_ok u _ _ _ (Nexts.take_down f hs ds n y d w r r' l i nr) q me he x j keys v se p = no_way cc

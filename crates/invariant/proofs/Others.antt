@@ -28,7 +28,7 @@ use Rattle.model_words.specs.Words as words
 use Rattle.model_words.specs.Words.{WordsOk, Every, In}
 use Rattle.model_words.specs.Effects.{Turn, Run}
 use Rattle.model_words.specs.Effects as effects
-use Rattle.model_words.specs.Theorems.{Start}
+use Rattle.model_words.specs.Theorems.{start_state}
 use Rattle.model_words.proofs.Rely as rely
 use Rattle.model_words.proofs.Able.{able}
 use Rattle.model_words.specs.Places.{Place, PlacesOk, Suits}
@@ -322,10 +322,10 @@ module _ {N : Numbers} {Key : List ℕ → Type 0} {σ : State} (law : Lawful N 
   closed_seat : {P : Type 0} (s : ℕ) (o : Operation) → σ.seats s ≡ busy o → P
   closed_seat s o e = let q = n.seats s in no_way cc
 
-  words_new : words_of σ ≡ Start
+  words_new : words_of σ ≡ start_state
   words_new = start_is (fun_ext n.words) (fun_ext (λ s. ap held_by (n.seats s))) n.calls
     where
-      start_is : {f : Ref → Meaning} {h : ℕ → List Hold} {c : ℕ} → f ≡ (λ x. fresh) → h ≡ (λ i. []) → c ≡ 0 → record { words = f; held = h; accepted = c } ≡ Start
+      start_is : {f : Ref → Meaning} {h : ℕ → List Hold} {c : ℕ} → f ≡ (λ x. fresh) → h ≡ (λ i. []) → c ≡ 0 → record { words = f; held = h; accepted = c } ≡ start_state
       start_is p q r = cc
 
   pub start_kept : Queued σ (beginning N) → Inv N Key σ (beginning N)
