@@ -1,5 +1,5 @@
 -- Records swept one by one.
-use Rattle.std.proofs.Common.{◌≡◌, ℕ, suc, ◌+◌, ◌<◌, ◌≤◌, Bool, true, false, cond, List, [], ◌∷◌, ◌++◌, length, get_or, take, drop, Some, sym, refl, ap, ◌∙◌, subst, append_assoc, append-nil, arith, length-append}
+use Rattle.std.proofs.Common.{◌≡◌, ℕ, suc, ◌+◌, ◌<◌, ◌≤◌, Bool, true, false, cond, List, [], ◌∷◌, ◌++◌, length, get_or, take, drop, Some, sym, refl, ap, ◌∙◌, subst, append_assoc, arith, length-append}
 use mir.Val.{bool_byte}
 use Rattle.std.proofs.ByRecursion.{All-push, All-get_or, All-from_get_or}
 use Rattle.std.proofs.lemmas.List.{drop_more, take_more}

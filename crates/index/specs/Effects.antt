@@ -1,10 +1,9 @@
 -- What each stage does to the tree, by the meaning of the root's word.
-use Rattle.std.specs.Prelude.{◌≡◌, ℕ, ◌<◌, List, [], ◌∷◌, ◌++◌, Some, None, Ok, Err, Option, Result, slice_index_or, slice_set}
+use Rattle.std.specs.Prelude.{◌≡◌, ℕ, List, [], ◌∷◌, ◌++◌, Some, None, Ok, Err, Option, Result, slice_index_or, slice_set}
 use Rattle.std.specs.List.{slice_get}
 use Rattle.keys.specs.Codes.{coded}
 use Rattle.keys.specs.declared.code.Code.{Code}
 use Rattle.latches.specs.declared.word.Permit.{Permit}
-use Rattle.latches.specs.declared.word.Word.{Word}
 use Rattle.latches.specs.Rules.{Face, Freed, take_refusal, check_refusal, lock_refusal, noted, shared, returned, held}
 use Rattle.terms.specs.declared.Cause.{Cause}
 use Rattle.terms.specs.declared.Kind.{Kind}
@@ -13,7 +12,6 @@ use Rattle.index.specs.declared.operation.Course.{Course}
 use Rattle.index.specs.declared.operation.Course.TheVariants.{Insert, Split}
 use Rattle.index.specs.declared.operation.Sight.{Sight}
 use Rattle.index.specs.declared.operation.Sight.TheVariants.{Nothing, Same, Other}
-use Rattle.index.specs.declared.tree.Leaf.{Leaf}
 use Rattle.index.specs.declared.tree.Tree.{Tree}
 use Rattle.index.specs.Trees.{leaf_at, spare_of, retired_of}
 

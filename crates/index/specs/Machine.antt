@@ -3,7 +3,6 @@ use Rattle.std.specs.Prelude.{Some, None, Option}
 use Rattle.latches.specs.declared.word.Permit.{Permit}
 use Rattle.terms.specs.declared.Cause.{Cause}
 use Rattle.terms.specs.declared.Kind.TheVariants.{Node256}
-use Rattle.terms.specs.declared.outcome.Answer.{Answer}
 use Rattle.terms.specs.declared.outcome.Answer.TheVariants.{Found, Absent, Added, Present, NoRoom as NoRoomIn}
 use Rattle.terms.specs.declared.outcome.Outcome.{Outcome}
 use Rattle.terms.specs.declared.outcome.Outcome.TheVariants.{Go, Again, Answered}
@@ -18,7 +17,7 @@ use Rattle.index.specs.declared.operation.Met.{Met}
 use Rattle.index.specs.declared.operation.Met.TheVariants.{Refused, NoRoom, Granted, Saw, Drew, Done}
 use Rattle.index.specs.declared.operation.Operation.{Operation}
 use Rattle.index.specs.declared.seat.Seat.{Seat}
-use Rattle.index.specs.declared.seat.Seat.TheVariants.{Closed, Idle, Busy}
+use Rattle.index.specs.declared.seat.Seat.TheVariants.{Idle, Busy}
 
 -- what follows a look
 abbrev pub decided : Task → Permit → Sight → Stage

@@ -1,5 +1,5 @@
 -- What a sweep makes spare.
-use Rattle.std.specs.Prelude.{◌≡◌, ℕ, ◌+◌, Bool, true, false, cond, ◌&&◌, List, [], ◌∷◌, ◌++◌, length, nat_lt}
+use Rattle.std.specs.Prelude.{◌≡◌, ℕ, ◌+◌, Bool, true, cond, ◌&&◌, List, [], ◌∷◌, ◌++◌, length, nat_lt}
 use Rattle.index.specs.declared.seat.Seat.{Seat}
 use Rattle.index.specs.declared.seat.Seat.TheVariants.{Closed, Idle, Busy}
 use Rattle.index.specs.declared.tree.Retired.{Retired}

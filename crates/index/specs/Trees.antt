@@ -1,8 +1,6 @@
 -- The memory of a tree, as its contracts read it.
-use Rattle.std.specs.Prelude.{◌≡◌, ℕ, ◌+◌, ◌<◌, ◌≤◌, List, [], length, get_or, replicate, Some, None, Option, slice_index_or}
+use Rattle.std.specs.Prelude.{◌≡◌, ℕ, ◌+◌, ◌<◌, ◌≤◌, List, [], length, get_or, replicate, None, slice_index_or}
 use Rattle.std.specs.List.{range_with_len}
-use Rattle.keys.specs.declared.code.Code.{Code}
-use Rattle.latches.specs.declared.word.Word.{Word}
 use Rattle.latches.specs.Rules.{zero_word}
 use Rattle.pools.specs.Contents.{contents, Fits}
 use Rattle.pools.specs.declared.queue.Queue.{Queue}

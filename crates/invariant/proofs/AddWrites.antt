@@ -3,16 +3,16 @@ use Rattle.std.proofs.Common.{◌≡◌, ℕ, suc, ◌+◌, Bool, true, false, c
 use Rattle.model.specs.Bytes.{◌≼◌}
 use Rattle.model.specs.Refs.{Ref, leaf, is, IsNode}
 use Rattle.model.specs.Tree.{Tree, Content, child, prefix, fan, cap, Ghost, Status, TreeOk}
-use Rattle.model.specs.Holds.{Hold, put}
+use Rattle.model.specs.Holds.{Hold}
 use Rattle.model.specs.Operations as op
 use Rattle.model.specs.Operations.{Operation, insert, grow, split, Item, write_n, write_p, unlock_n, unlock_n_gone, unlock_p, Drawn, by_key, act, busy, Outcome, go}
-use Rattle.machine.specs.State.{State, Numbers, with}
+use Rattle.machine.specs.State.{State, Numbers}
 use Rattle.machine.specs.Choices.{key_byte}
 use Rattle.machine.specs.Items.{byte_above, Writes, common, split_node, grown_node, branch}
 use Rattle.machine.specs.Steps.{is_next, Follows}
 use Rattle.invariant.specs.Ghosts.{Ghosts, status_of, ghost, FluxOf}
 use Rattle.invariant.specs.Courses.{inserting, splitting, growing, LeafDrawn, NodeDrawn, OneLocked, BothLocked}
-use Rattle.invariant.specs.Changes.{wrote, Puts}
+use Rattle.invariant.specs.Changes.{Puts}
 use Rattle.invariant.proofs.Setting.{Step, no_way, in_last}
 use Rattle.model_tree.specs.Writes as writes
 use Rattle.model_tree.specs.Writes.{Fresh}

@@ -10,7 +10,7 @@ use Rattle.model.specs.Holds.{Grip, Hold, put, let_go, let_go_all}
 use Rattle.model.specs.Operations as op
 use Rattle.model.specs.Operations.{Operation, Task, Answer, Course, collapse, items, Item, lock_p, lock_n, lock_m, draw, write_n, write_m, write_p, unlock_m, unlock_n, unlock_n_gone, unlock_p, Drawn, Mode, by_key, back, down, Stage, check_p, look, act, scan, Seat, busy, Outcome, go, again}
 use Rattle.machine.specs.State.{State, Numbers, WordsAre, with, Ends}
-use Rattle.machine.specs.Choices.{key_byte, begun}
+use Rattle.machine.specs.Choices.{key_byte}
 use Rattle.machine.specs.Items.{check_by, lock_by, Does, locked, Plain}
 use Rattle.machine.specs.Steps.{is_next, kept_p, parent, after_take, pair_at, picked, Sees, Refuses, Follows, Row}
 use Rattle.invariant.specs.Ghosts.{Ghosts, ghost, place_of, held_by, words_of, SoundAt, IsPermit, IsLocked, Permits, Flux}

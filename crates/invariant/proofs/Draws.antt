@@ -6,7 +6,7 @@ use Rattle.model.specs.Bytes.{◌≼◌}
 use Rattle.model.specs.Refs.{Ref, leaf, node, is, IsNode, Kind, room, pool}
 use Rattle.model.specs.Tree.{Tree, Content, child, prefix, fan, cap, Status, Linked, one}
 use Rattle.model.specs.Holds.{Hold, put}
-use Rattle.model.specs.Operations.{Operation, Task, Course, insert, grow, split, miss, in_place, collapse, items, Item, lock_p, lock_n, draw, write_n, write_p, unlock_n, unlock_n_gone, unlock_p, Drawn, Mode, by_key, Stage, act, busy, Outcome, go}
+use Rattle.model.specs.Operations.{Operation, Task, Course, insert, grow, split, miss, in_place, collapse, items, Item, lock_p, lock_n, draw, write_n, write_p, unlock_n, unlock_n_gone, unlock_p, Drawn, Mode, by_key, Stage, act, busy, Outcome}
 use Rattle.machine.specs.State.{State, Numbers, with}
 use Rattle.machine.specs.Choices.{key_byte, decided, begun}
 use Rattle.machine.specs.Items.{draws, adds, filling, larger, LeafFilled, NodeFilled, fork, branch, split_node, grown_node, miss_node}

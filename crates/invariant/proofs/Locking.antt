@@ -1,28 +1,23 @@
 -- Locks and unlocks of a course keep their seat.
-use Rattle.std.proofs.Common.{◌≡◌, ℕ, zero, suc, ◌+◌, ◌-◌, ◌<◌, ◌≤◌, Bool, true, false, cond, ◌||◌, eqb, leb, ◌⊎◌, List, [], ◌∷◌, ◌++◌, length, get_or, take, drop, Some, None, Option, sym, refl, ap, ◌∙◌, subst, inl, inr, ⊎_elim, arith}
-use Rattle.terms.specs.Limits.{seat_count}
-use Rattle.terms.specs.declared.Cause.{Cause}
+use Rattle.std.proofs.Common.{◌≡◌, ℕ, suc, ◌+◌, ◌-◌, Bool, true, false, cond, ◌||◌, eqb, leb, List, [], ◌∷◌, ◌++◌, length, Some, None, Option, sym, refl, ap, ◌∙◌, subst, inl, inr, ⊎_elim, arith}
 use Rattle.latches.specs.declared.word.Meaning.{Meaning}
 use Rattle.model.specs.Bytes.{◌≼◌}
-use Rattle.model.specs.Refs.{Ref, leaf, node, root, is, IsNode, Kind, room, pool}
-use Rattle.model.specs.Tree.{Tree, Content, child, prefix, fan, cap, Ghost, Status, Linked, TreeOk, Holds}
-use Rattle.model.specs.Holds.{Grip, Hold, put, let_go_all}
+use Rattle.model.specs.Refs.{Ref, leaf, node, root, is}
+use Rattle.model.specs.Tree.{Tree, child, prefix, fan, cap, Linked}
+use Rattle.model.specs.Holds.{Grip, Hold}
 use Rattle.model.specs.Operations as op
 use Rattle.model.specs.Operations.{Operation, Task, Answer, Course, insert, grow, split, miss, in_place, collapse, items, Item, lock_p, lock_n, lock_m, draw, write_n, write_m, write_p, unlock_m, unlock_n, unlock_n_gone, unlock_p, Drawn, Mode, by_key, back, down, Stage, check_p, look, check_n, act, scan, Seat, closed, idle, busy, Outcome, go, again, answers}
-use Rattle.machine.specs.State.{State, Numbers, Still, WordsAre, with, anew, Restarts, Ends}
+use Rattle.machine.specs.State.{State, Numbers, Still}
 use Rattle.machine.specs.Choices.{key_byte, without, second, left, collapsing as collapsing', decided, begun}
 use Rattle.model_next.specs.Look.{least}
 use Rattle.model_next.proofs.Views.{least_some}
-use Rattle.machine.specs.Items.{check_by, lock_by, locked, Plain, byte_above, draws, adds, filling, larger, LeafFilled, NodeFilled, Prefixed, Pooled, Writes, Does}
-use Rattle.machine.specs.Steps.{is_next, above_p, kept_p, parent, after_take, pair_at, goes_back, picked, Sees, Refuses, NoRoom, Follows, Row}
-use Rattle.machine.specs.Calls.{Turns}
-use Rattle.invariant.specs.Ghosts.{Ghosts, status_of, ghost, place_of, place_at, held_by, words_of, SoundAt, Safe, IsPermit, Permits, FluxOf, Flux}
-use Rattle.invariant.specs.Seats.{Placed, LeadsTo, Decides, Above, Stand, at_root, below, Reads}
-use Rattle.invariant.specs.Courses.{Solo, inserting, splitting, removing, Pair, growing, missing, collapsing, LeafDrawn, NodeDrawn, OneLocked, BothLocked, IsRetired, Joins, Joined, Cut, Acts}
-use Rattle.invariant.specs.Nexts.{Rises, Saw, Says, Nexts}
-use Rattle.invariant.specs.Invariant.{Lawful, Walks, Aims, SeatOk, Spelled, Inv}
-use Rattle.invariant.specs.Changes.{Same, LockedBy, Change, drew, wrote, Leaves, HoldsSame, Puts, Drops}
-use Rattle.invariant.proofs.Setting.{Step, true_false, linked_mark, retired_mark, safe_not_spare, safe_not_drawn, none_applies, check_sound, lock_sound, sound_by, lock_by_lem, seat_below, held_is, entry_in, entry_reads, entry_locked, sound_linked, flux_held, flux_locked, sound_steady, locked_steady, no_way, next_acts, snoc_one, in_front, sound_locked}
+use Rattle.machine.specs.Items.{lock_by, locked, Plain, Does}
+use Rattle.machine.specs.Steps.{is_next, Follows, Row}
+use Rattle.invariant.specs.Ghosts.{Ghosts, ghost, words_of, SoundAt, Permits}
+use Rattle.invariant.specs.Seats.{Placed, Decides, Above, Stand, at_root, below, Reads}
+use Rattle.invariant.specs.Courses.{Solo, inserting, splitting, removing, Pair, growing, missing, collapsing, OneLocked, BothLocked, Acts}
+use Rattle.invariant.specs.Invariant.{Walks, Aims, SeatOk, Inv}
+use Rattle.invariant.proofs.Setting.{Step, lock_by_lem, entry_in, no_way, next_acts, snoc_one, in_front, sound_locked}
 use Rattle.model_words.specs.Words.{Every, In}
 use Rattle.invariant.proofs.WalkRows.{Back, Carries, carry_reads, carry_placed, carry_leads, carry_decides, carry_above, carry_stand}
 use Rattle.invariant.proofs.RowWords.{row_words}

@@ -1,25 +1,24 @@
 -- The writes that move prefixes and nodes: a miss, a removal and a collapse.
 use Rattle.std.proofs.Common.{◌≡◌, ℕ, suc, ◌+◌, ◌-◌, ◌<◌, ◌≤◌, Bool, true, false, cond, ◌||◌, eqb, leb, ◌⊎◌, List, [], ◌∷◌, ◌++◌, length, get_or, take, drop, Some, None, Option, sym, refl, ap, ◌∙◌, subst, ap₂, inl, inr, ⊎_elim, append_assoc, arith}
 use Rattle.model.specs.Bytes.{◌≼◌}
-use Rattle.model.specs.Refs.{Ref, leaf, node, root, is, IsNode}
+use Rattle.model.specs.Refs.{Ref, leaf, root, is, IsNode}
 use Rattle.model.specs.Tree.{Tree, Content, child, prefix, fan, Ghost, Status, Linked, TreeOk, Entry}
-use Rattle.model.specs.Holds.{Hold, put}
+use Rattle.model.specs.Holds.{Hold}
 use Rattle.model.specs.Operations as op
 use Rattle.model.specs.Operations.{Operation, split, miss, in_place, collapse, Item, write_n, write_m, write_p, unlock_m, unlock_n, unlock_n_gone, unlock_p, Drawn, by_key, act, closed, busy, Outcome, go}
 use Rattle.machine.specs.State.{State, Numbers, WordsAre, with}
-use Rattle.machine.specs.Choices.{key_byte, decided, begun, without, second, left}
+use Rattle.machine.specs.Choices.{key_byte, without, second, left}
 use Rattle.machine.specs.Items.{byte_above, Prefixed, Writes, fork, miss_node}
 use Rattle.machine.specs.Steps.{is_next, Follows}
 use Rattle.invariant.specs.Ghosts.{Ghosts, status_of, ghost, IsLocked, FluxOf, Flux}
-use Rattle.invariant.specs.Seats.{below}
 use Rattle.invariant.specs.Courses.{removing, collapsing, LeafDrawn, NodeDrawn, BothLocked, Joins, Joined, Cut, Acts}
-use Rattle.invariant.specs.Changes.{LockedBy, wrote, Leaves, HoldsSame, Puts, Drops}
+use Rattle.invariant.specs.Changes.{LockedBy, Leaves, HoldsSame, Puts, Drops}
 use Rattle.invariant.proofs.Setting.{Step, true_false, entry_reads, locked_steady, no_way, in_last, sound_locked, is_not}
 use Rattle.model_tree.specs.Writes as writes
 use Rattle.model_tree.specs.Writes.{Fresh, After, Removed}
 use Rattle.model_words.specs.Words.{In}
-use Rattle.model_slots.specs.Slots.{count, has, bit}
-use Rattle.model_slots.specs.Laws.{linked, spare, drawn, retired}
+use Rattle.model_slots.specs.Slots.{count, bit}
+use Rattle.model_slots.specs.Laws.{drawn}
 use Rattle.invariant.proofs.Sees.{At, Missed, SameSeen, stands}
 use Rattle.invariant.proofs.Written.{Written, Exchange, flux_more, flows, flux_of, followed, course_at, course_n, at_locked, chosen_at, tells_at, locked_by, no_flux, fresh, stand_placed, stand_above, same_leaf, same_node, solo_acts, gone_acts, puts, drops, still_linked, gone_retired, fork_made, leads_at, prefix_leaves}
 use native.Mathlib.Decide.{ℕ_discrete}
@@ -34,7 +33,6 @@ use Rattle.model_tree.proofs.Parts.{node_leaf, unlike}
 use Rattle.model_tree.proofs.Ready.{miss_ready, in_place_ready, left_over, collapse_ready}
 use Rattle.model_tree.proofs.Adds.{miss_keeps}
 use Rattle.model_tree.proofs.Removes.{inplace_keeps, collapse_keeps}
-use Rattle.model_tree.proofs.Moves.{moved}
 use Rattle.model_next.specs.Look.{least}
 use Rattle.model_next.proofs.Views.{least_some}
 

@@ -1,45 +1,39 @@
 -- Calls that take no step keep the invariant: opens, closes and begins, sweeps, and the start.
-use Rattle.std.proofs.Common.{◌≡◌, ℕ, zero, suc, ◌+◌, ◌-◌, ◌<◌, ◌≤◌, Bool, true, false, cond, ltb, ◌⊎◌, List, [], ◌∷◌, ◌++◌, length, get_or, take, drop, Some, None, Option, sym, refl, ap, ◌∙◌, subst, ap₂, inl, inr, ⊎_elim, arith, ltb-false, ltb-true, lt-ltb}
+use Rattle.std.proofs.Common.{◌≡◌, ℕ, zero, suc, ◌<◌, ◌≤◌, Bool, true, false, cond, ltb, ◌⊎◌, List, [], ◌∷◌, ◌++◌, Some, None, Option, sym, refl, ap, ◌∙◌, subst, inl, inr, ⊎_elim, arith, ltb-false, ltb-true}
 use Rattle.terms.specs.Limits.{seat_count}
-use Rattle.terms.specs.declared.Cause.{Cause}
 use Rattle.latches.specs.declared.word.Meaning.{Meaning}
 use Rattle.model.specs.Bytes.{◌≼◌}
-use Rattle.model.specs.Refs.{Ref, leaf, node, root, is, IsNode, Kind, room, pool}
-use Rattle.model.specs.Tree.{Tree, Content, child, prefix, fan, cap, Ghost, Status, Linked, TreeOk, Holds}
-use Rattle.model.specs.Holds.{Grip, Hold, put, let_go_all}
+use Rattle.model.specs.Refs.{Ref, leaf, node, root, is}
+use Rattle.model.specs.Tree.{Tree, child, prefix, Ghost, Status, TreeOk, Holds}
+use Rattle.model.specs.Holds.{Hold}
 use Rattle.model.specs.Operations as op
 use Rattle.model.specs.Operations.{Operation, Task, Answer, Course, insert, grow, split, miss, in_place, collapse, items, Item, lock_p, lock_n, lock_m, draw, write_n, write_m, write_p, unlock_m, unlock_n, unlock_n_gone, unlock_p, Drawn, Mode, by_key, back, down, Stage, check_p, look, check_n, act, scan, Seat, closed, idle, busy, Outcome, go, again, answers}
-use Rattle.machine.specs.State.{State, Numbers, Still, WordsAre, with, anew, Restarts, Ends}
-use Rattle.machine.specs.Choices.{key_byte, decided, begun}
-use Rattle.machine.specs.Items.{check_by, lock_by, byte_above, draws, adds, filling, larger, LeafFilled, NodeFilled, Prefixed, Pooled, Writes, Does}
-use Rattle.machine.specs.Steps.{is_next, above_p, kept_p, parent, after_take, pair_at, goes_back, picked, Sees, Refuses, NoRoom, Follows, Row}
+use Rattle.machine.specs.State.{State, Numbers, WordsAre}
+use Rattle.machine.specs.Steps.{is_next}
 use Rattle.machine.specs.Calls.{Turns}
-use Rattle.invariant.specs.Ghosts.{Ghosts, status_of, ghost, place_of, place_at, held_by, words_of, SoundAt, Safe, IsPermit, IsLocked, Permits, FluxOf, Flux}
-use Rattle.invariant.specs.Seats.{Placed, LeadsTo, Decides, Above, Stand, at_root, below, Aloft, none_aloft, one_aloft, Reads}
-use Rattle.invariant.specs.Courses.{Solo, inserting, splitting, removing, Pair, growing, missing, collapsing, LeafDrawn, NodeDrawn, OneLocked, BothLocked, IsRetired, Joins, Joined, Cut, Acts}
-use Rattle.invariant.specs.Nexts.{Rises, Saw, Says, Nexts}
-use Rattle.invariant.specs.Invariant.{Lawful, Walks, Aims, SeatOk, Spelled, Inv}
-use Rattle.invariant.specs.Changes.{Same, LockedBy, Unread, Change, drew, wrote, Leaves, HoldsSame, Puts, Drops}
-use Rattle.invariant.proofs.Setting.{Step, true_false, linked_mark, retired_mark, safe_not_spare, safe_not_drawn, none_applies, check_sound, lock_sound, sound_by, lock_by_lem, seat_below, held_is, entry_in, entry_reads, entry_locked, sound_linked, flux_held, flux_locked, sound_steady, locked_steady, no_way, next_acts}
+use Rattle.invariant.specs.Ghosts.{Ghosts, status_of, ghost, place_of, place_at, held_by, words_of, Safe, Permits, Flux}
+use Rattle.invariant.specs.Nexts.{Nexts}
+use Rattle.invariant.specs.Invariant.{Lawful, Walks, Aims, SeatOk, Inv}
+use Rattle.invariant.specs.Changes.{Change, HoldsSame}
+use Rattle.invariant.proofs.Setting.{true_false, linked_mark, retired_mark, seat_below, no_way}
 use mathlib.Core.Path.{fun_ext}
 use native.Mathlib.Decide.{ℕ_discrete}
 use Rattle.latches.specs.Rules.{fresh}
-use Rattle.model_words.specs.Words as words
-use Rattle.model_words.specs.Words.{WordsOk, Every, In}
+use Rattle.model_words.specs.Words.{WordsOk}
 use Rattle.model_words.specs.Effects.{Turn, Run}
 use Rattle.model_words.specs.Effects as effects
 use Rattle.model_words.specs.Theorems.{start_state}
 use Rattle.model_words.proofs.Rely as rely
 use Rattle.model_words.proofs.Able.{able}
 use Rattle.model_words.specs.Places.{Place, PlacesOk, Suits}
-use Rattle.model_tree.specs.Graft.{Closed, UpTo}
+use Rattle.model_tree.specs.Graft.{Closed}
 use Rattle.model_tree.specs.Writes.{Aside}
 use Rattle.model_tree.proofs.Aside.{aside, aside_closed, aside_holds}
 use Rattle.model_tree.proofs.Turn.{choose, choose_in, choose_out}
-use Rattle.model_tree.proofs.Start.{first, first_linked, first_retired, starts, starts_empty}
+use Rattle.model_tree.proofs.Start.{first, first_retired, starts, starts_empty}
 use Rattle.model_slots.specs.Slots.{both, late, clear}
 use Rattle.model_slots.specs.Laws.{Mark, linked, spare, outside, drawn, retired, swept}
-use Rattle.model_slots.proofs.Lists.{is_tells, is_self}
+use Rattle.model_slots.proofs.Lists.{is_tells}
 use Rattle.machine.specs.Calls.{Calm, started, begun_at, Swept}
 use Rattle.runs.specs.Runs.{New}
 use Rattle.runs.specs.Happened.{in_pool}

@@ -13,7 +13,6 @@ use Rattle.machine.specs.Steps.{is_next, above_p, kept_p, pair_at, picked, Refus
 use Rattle.invariant.specs.Ghosts.{Ghosts, ghost, place_of, place_at, held_by, words_of, IsPermit, IsLocked, Permits}
 use Rattle.invariant.specs.Seats.{Placed, Stand, at_root, below, Reads}
 use Rattle.invariant.specs.Courses.{Solo, inserting, splitting, removing, Pair, growing, missing, collapsing, Acts}
-use Rattle.invariant.specs.Nexts.{Nexts}
 use Rattle.invariant.specs.Invariant.{Walks, SeatOk}
 use Rattle.invariant.proofs.Setting.{Step, linked_mark, retired_mark, none_applies, lock_sound, no_way, next_acts, snoc_one, last_permit}
 use Rattle.model_words.specs.Words as words

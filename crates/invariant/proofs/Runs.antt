@@ -1,29 +1,16 @@
 -- Every run keeps the invariant.
-use Rattle.std.proofs.Common.{◌≡◌, ℕ, zero, suc, ◌+◌, ◌-◌, ◌<◌, ◌≤◌, Bool, true, false, cond, ◌⊎◌, List, [], ◌∷◌, ◌++◌, length, get_or, take, drop, Some, None, Option, sym, refl, ap, ◌∙◌, subst, ap₂, inl, inr, ⊎_elim, arith}
+use Rattle.std.proofs.Common.{◌≡◌, ℕ, ◌<◌, ◌≤◌, Bool, List, [], ◌∷◌, ◌++◌, Some, sym, refl, ap, ◌∙◌, subst, ap₂, arith}
 use Rattle.terms.specs.Limits.{seat_count}
-use Rattle.terms.specs.declared.Cause.{Cause}
-use Rattle.latches.specs.declared.word.Meaning.{Meaning}
-use Rattle.model.specs.Bytes.{◌≼◌}
-use Rattle.model.specs.Refs.{Ref, leaf, node, root, is, IsNode, Kind, room, pool}
-use Rattle.model.specs.Tree.{Tree, Content, child, prefix, fan, cap, Ghost, Status, Linked, TreeOk, Holds}
-use Rattle.model.specs.Holds.{Grip, Hold, put, let_go_all}
-use Rattle.model.specs.Operations as op
-use Rattle.model.specs.Operations.{Operation, Task, Answer, Course, insert, grow, split, miss, in_place, collapse, items, Item, lock_p, lock_n, lock_m, draw, write_n, write_m, write_p, unlock_m, unlock_n, unlock_n_gone, unlock_p, Drawn, Mode, by_key, back, down, Stage, check_p, look, check_n, act, scan, Seat, closed, idle, busy, Outcome, go, again, answers}
-use Rattle.machine.specs.State.{State, Numbers, Still, WordsAre, with, anew, Restarts, Ends}
-use Rattle.machine.specs.Choices.{key_byte, decided, begun}
-use Rattle.machine.specs.Items.{check_by, lock_by, byte_above, draws, adds, filling, larger, LeafFilled, NodeFilled, Prefixed, Pooled, Writes, Does}
-use Rattle.machine.specs.Steps.{is_next, above_p, kept_p, parent, after_take, pair_at, goes_back, picked, Sees, Refuses, NoRoom, Follows, Row}
+use Rattle.model.specs.Refs.{Ref, root}
+use Rattle.model.specs.Operations.{Task, Seat, closed, idle, busy}
+use Rattle.machine.specs.State.{State, Numbers}
 use Rattle.machine.specs.Calls.{Turns}
-use Rattle.invariant.specs.Ghosts.{Ghosts, status_of, ghost, place_of, place_at, held_by, words_of, SoundAt, Safe, IsPermit, IsLocked, Permits, FluxOf, Flux}
-use Rattle.invariant.specs.Seats.{Placed, LeadsTo, Decides, Above, Stand, at_root, below, Aloft, none_aloft, one_aloft, Reads}
-use Rattle.invariant.specs.Courses.{Solo, inserting, splitting, removing, Pair, growing, missing, collapsing, LeafDrawn, NodeDrawn, OneLocked, BothLocked, IsRetired, Joins, Joined, Cut, Acts}
-use Rattle.invariant.specs.Nexts.{Rises, Saw, Says, Nexts}
-use Rattle.invariant.specs.Invariant.{Lawful, Walks, Aims, SeatOk, Spelled, Inv}
-use Rattle.invariant.specs.Changes.{Same, LockedBy, Unread, Change, drew, wrote, Leaves, HoldsSame, Puts, Drops}
-use Rattle.invariant.proofs.Setting.{Step, true_false, linked_mark, retired_mark, safe_not_spare, safe_not_drawn, none_applies, check_sound, lock_sound, sound_by, lock_by_lem, seat_below, held_is, entry_in, entry_reads, entry_locked, sound_linked, flux_held, flux_locked, sound_steady, locked_steady, no_way, next_acts}
+use Rattle.invariant.specs.Ghosts.{Ghosts, held_by}
+use Rattle.invariant.specs.Invariant.{Lawful, Inv}
+use Rattle.invariant.specs.Changes.{HoldsSame}
+use Rattle.invariant.proofs.Setting.{Step, no_way}
 use native.Mathlib.Decide.{dec_le}
-use Rattle.model_slots.specs.Slots as slots
-use Rattle.model_slots.specs.Slots.{Event, begin, sweep, clear, count}
+use Rattle.model_slots.specs.Slots.{Event, sweep, clear, count}
 use Rattle.model_slots.specs.Laws.{Mark, mark, sweeps, opens, swept}
 use Rattle.model_slots.proofs.Keeps.{good}
 use Rattle.model_slots.proofs.Promised as promised
@@ -32,14 +19,13 @@ use mathlib.Core.Path.{fun_ext}
 use Rattle.machine.specs.Calls.{Call, Reply, seat_of, Accepted, Fits, Did, started, begun_at}
 use Rattle.runs.specs.Runs as runs
 use Rattle.runs.specs.Runs.{New, Run}
-use Rattle.runs.specs.Happened.{row_events, happened, events, in_pool}
-use Rattle.runs.specs.Named.{Names, nothing, row_names}
-use Rattle.terms.specs.Limits.{call_limit}
+use Rattle.runs.specs.Happened.{happened, events, in_pool}
+use Rattle.runs.specs.Named.{row_names}
 use Rattle.terms.specs.declared.Refusal.TheVariants as refusal
-use Rattle.invariant.proofs.Steps.{Effect, Kept, step_keeps}
-use Rattle.invariant.proofs.SlotRuns.{Agree, SlotsOk, CallUnlinks, slots_made, slots_on}
+use Rattle.invariant.proofs.Steps.{Effect, step_keeps}
+use Rattle.invariant.proofs.SlotRuns.{SlotsOk, CallUnlinks, slots_made, slots_on}
 use Rattle.invariant.proofs.Keeps.{Queued, inv_kept}
-use Rattle.invariant.proofs.Others.{turn_kept, begun_ok, frees, sweeping, sweep_kept, sweep_holds, beginning, start_kept, start_lacks}
+use Rattle.invariant.proofs.Others.{turn_kept, begun_ok, sweeping, sweep_kept, sweep_holds, beginning, start_kept}
 use Rattle.invariant.proofs.Quiet.{same_holds}
 
 -- the bytes of accepted keys

@@ -1,31 +1,29 @@
 -- What the other proofs share: reading marks, entries of a seat, and nodes in flux.
-use Rattle.std.proofs.Common.{◌≡◌, ℕ, zero, suc, ◌+◌, ◌<◌, ◌≤◌, Bool, true, false, not, eqb, ltb, ◌⊎◌, List, [], ◌∷◌, ◌++◌, Some, None, Option, sym, refl, ap, ◌∙◌, subst, inl, inr, ⊎_elim, arith}
+use Rattle.std.proofs.Common.{◌≡◌, ℕ, ◌<◌, ◌≤◌, Bool, true, false, not, eqb, ltb, List, [], ◌∷◌, ◌++◌, None, Option, sym, refl, ap, ◌∙◌, subst, inl, inr, ⊎_elim, arith}
 use native.Mathlib.Decide.{dec_le}
 use Rattle.std.proofs.lemmas.Bool.{eqb-true, ltb-false}
 use Rattle.terms.specs.Limits.{seat_count}
-use Rattle.terms.specs.declared.Cause.{Cause}
 use Rattle.latches.specs.declared.word.Meaning.{Meaning}
 use Rattle.latches.specs.Rules.{smallest}
 use Rattle.model.specs.Refs.{Ref, leaf, node, is, IsNode}
 use Rattle.model.specs.Tree.{Status, Linked}
 use Rattle.model.specs.Holds.{Grip, Hold}
-use Rattle.model.specs.Operations.{Operation, Seat, closed, idle, busy, Course, miss, collapse, items, Item, write_p, Drawn, Mode, Stage, act, Outcome}
+use Rattle.model.specs.Operations.{Operation, Seat, busy, Course, miss, collapse, items, Item, write_p, Drawn, Mode, Stage, act, Outcome}
 use Rattle.model.proofs.Bytes.{none_some}
-use Rattle.model_words.specs.Words.{Sound, WordsOk, Every, In}
-use Rattle.model_words.specs.Places.{Place, Suits}
+use Rattle.model_words.specs.Words.{Sound, Every, In}
+use Rattle.model_words.specs.Places.{Suits}
 use Rattle.model_words.proofs.Owners as owners
 use Rattle.model_words.proofs.Rely as rely
 use Rattle.model_slots.specs.Laws.{Mark, linked, spare, outside, drawn, retired}
 use Rattle.model_slots.proofs.Lists.{is_tells}
 use Rattle.machine.specs.State.{State, Numbers}
 use Rattle.machine.specs.Calls.{Turns}
-use Rattle.machine.specs.Steps.{Row}
 use Rattle.machine.specs.Items.{check_by, lock_by}
-use Rattle.invariant.specs.Ghosts.{Ghosts, status_of, ghost, place_of, place_at, held_by, words_of, SoundAt, Safe, IsPermit, IsLocked, Permits, FluxOf, cut, joined, Flux}
+use Rattle.invariant.specs.Ghosts.{Ghosts, status_of, ghost, place_of, held_by, words_of, SoundAt, Safe, IsPermit, IsLocked, Permits, FluxOf, cut, joined, Flux}
 use Rattle.invariant.specs.Seats.{Reads}
 use Rattle.invariant.specs.Courses.{Solo, inserting, splitting, removing, Acts}
 use Rattle.invariant.specs.Nexts.{Nexts}
-use Rattle.invariant.specs.Invariant.{Lawful, Walks, SeatOk, Inv}
+use Rattle.invariant.specs.Invariant.{Lawful, Walks, Inv}
 
 -- a step of the seat s, in a state that keeps the invariant
 pub record Step (N : Numbers) (Key : List ℕ → Type 0) (σ τ : State) (g : Ghosts) (s : ℕ) (o : Operation) (z : Seat) (r : Outcome) : Type 0 where

@@ -1,5 +1,5 @@
 -- What holds of a seat is left by the calls of others.
-use Rattle.std.proofs.Common.{◌≡◌, ℕ, suc, ◌+◌, ◌-◌, Bool, true, false, cond, ◌||◌, eqb, leb, ◌⊎◌, List, [], ◌∷◌, ◌++◌, length, get_or, take, drop, Some, None, Option, sym, refl, ap, ◌∙◌, subst, ap₂, inl, inr, ⊎_elim, arith}
+use Rattle.std.proofs.Common.{◌≡◌, ℕ, suc, ◌+◌, ◌-◌, Bool, true, false, cond, ◌||◌, eqb, leb, List, [], ◌∷◌, ◌++◌, length, get_or, take, drop, Some, None, Option, sym, refl, ap, ◌∙◌, subst, ap₂, inl, inr, ⊎_elim, arith}
 use mathlib.Core.Path.{fun_ext}
 use Rattle.model.specs.Bytes.{◌≼◌}
 use Rattle.model.specs.Refs.{Ref, leaf, node, root, is, IsNode}
@@ -19,7 +19,7 @@ use Rattle.invariant.specs.Changes.{Same, LockedBy, Unread, Change}
 use Rattle.invariant.proofs.Setting.{true_false, safe_not_spare, safe_not_drawn, seat_below, entry_in, entry_reads, entry_locked, no_way, in_last, in_front, in_back}
 use Rattle.model_words.specs.Words.{Sound, Every, In}
 use Rattle.model_words.specs.Effects.{Run, Rely}
-use Rattle.model_slots.specs.Laws.{spare, drawn}
+use Rattle.model_slots.specs.Laws.{drawn}
 use Rattle.invariant.proofs.Sees.{seen_same}
 use Rattle.model.specs.Tree as trees
 use Rattle.model.specs.Sights as sight

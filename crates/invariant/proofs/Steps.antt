@@ -1,27 +1,23 @@
 -- Every step keeps the invariant.
-use Rattle.std.proofs.Common.{◌≡◌, ℕ, zero, suc, ◌+◌, ◌-◌, ◌<◌, ◌≤◌, Bool, true, false, cond, ◌⊎◌, List, [], ◌∷◌, ◌++◌, length, get_or, take, drop, Some, None, Option, sym, refl, ap, ◌∙◌, subst, ap₂, inl, inr, ⊎_elim, arith}
-use Rattle.terms.specs.Limits.{seat_count}
+use Rattle.std.proofs.Common.{◌≡◌, ℕ, ◌≤◌, Bool, cond, ◌⊎◌, List, [], ◌∷◌, ◌++◌, Some, Option, sym, refl, ap, ◌∙◌, subst, ap₂, inl, inr, ⊎_elim, arith}
 use Rattle.terms.specs.declared.Cause.{Cause}
 use Rattle.terms.specs.declared.Cause.TheVariants.{Changed}
 use Rattle.latches.specs.declared.word.Meaning.{Meaning}
-use Rattle.model.specs.Bytes.{◌≼◌}
-use Rattle.model.specs.Refs.{Ref, leaf, node, root, is, IsNode, Kind, room, pool}
-use Rattle.model.specs.Tree.{Tree, Content, child, prefix, fan, cap, Ghost, Status, Linked, TreeOk, Holds}
-use Rattle.model.specs.Holds.{Grip, Hold, put, let_go_all}
+use Rattle.model.specs.Refs.{Ref, leaf, node, root, is}
+use Rattle.model.specs.Tree.{Tree}
+use Rattle.model.specs.Holds.{Hold}
 use Rattle.model.specs.Operations as op
 use Rattle.model.specs.Operations.{Operation, Task, Answer, Course, insert, grow, split, miss, in_place, collapse, items, Item, lock_p, lock_n, lock_m, draw, write_n, write_m, write_p, unlock_m, unlock_n, unlock_n_gone, unlock_p, Drawn, Mode, by_key, back, down, Stage, check_p, look, check_n, act, scan, Seat, closed, idle, busy, Outcome, go, again, answers}
-use Rattle.machine.specs.State.{State, Numbers, Still, WordsAre, with, anew, Restarts, Ends}
-use Rattle.machine.specs.Choices.{key_byte, decided, begun}
-use Rattle.machine.specs.Items.{check_by, lock_by, byte_above, draws, adds, filling, larger, LeafFilled, NodeFilled, Prefixed, Pooled, Writes, Does}
-use Rattle.machine.specs.Steps.{is_next, above_p, kept_p, parent, after_take, pair_at, goes_back, picked, Sees, Refuses, NoRoom, Follows, Row}
+use Rattle.machine.specs.State.{State, Numbers, Still, Restarts}
+use Rattle.machine.specs.Choices.{decided, begun}
+use Rattle.machine.specs.Items.{adds, Does}
+use Rattle.machine.specs.Steps.{Refuses, NoRoom, Follows, Row}
 use Rattle.machine.specs.Calls.{Turns}
-use Rattle.invariant.specs.Ghosts.{Ghosts, status_of, ghost, place_of, place_at, held_by, words_of, SoundAt, Safe, IsPermit, IsLocked, Permits, FluxOf, Flux}
-use Rattle.invariant.specs.Seats.{Placed, LeadsTo, Decides, Above, Stand, at_root, below, Aloft, none_aloft, one_aloft, Reads}
-use Rattle.invariant.specs.Courses.{Solo, inserting, splitting, removing, Pair, growing, missing, collapsing, LeafDrawn, NodeDrawn, OneLocked, BothLocked, IsRetired, Joins, Joined, Cut, Acts}
-use Rattle.invariant.specs.Nexts.{Rises, Saw, Says, Nexts}
-use Rattle.invariant.specs.Invariant.{Lawful, Walks, Aims, SeatOk, Spelled, Inv}
-use Rattle.invariant.specs.Changes.{Same, LockedBy, Change, drew, wrote, Leaves, HoldsSame, Puts, Drops}
-use Rattle.invariant.proofs.Setting.{Step, true_false, linked_mark, retired_mark, safe_not_spare, safe_not_drawn, none_applies, check_sound, lock_sound, sound_by, lock_by_lem, seat_below, held_is, entry_in, entry_reads, entry_locked, sound_linked, flux_held, flux_locked, sound_steady, locked_steady, no_way, next_acts, sound_locked}
+use Rattle.invariant.specs.Ghosts.{Ghosts, FluxOf}
+use Rattle.invariant.specs.Courses.{Solo, inserting, splitting, removing, Pair, growing, missing, collapsing, Acts}
+use Rattle.invariant.specs.Invariant.{SeatOk}
+use Rattle.invariant.specs.Changes.{Leaves, HoldsSame, Puts, Drops}
+use Rattle.invariant.proofs.Setting.{Step, no_way, sound_locked}
 use Rattle.model.specs.Sights.{Seen}
 use Rattle.model.proofs.Bytes.{some_inj}
 use Rattle.model_slots.specs.Slots.{Event, write, has, count, bit}
@@ -29,7 +25,7 @@ use Rattle.model_slots.specs.Laws.{Mark, linked, spare, drawn, retired, mark, sw
 use Rattle.model_slots.proofs.Lists.{is_tells}
 use Rattle.runs.specs.Happened.{after_item, no_room_events, row_events}
 use Rattle.runs.specs.Named.{Names, nothing, itself, first_check, row_names}
-use Rattle.invariant.specs.Effects.{Said, Acted, NextSaid, Unsound}
+use Rattle.invariant.specs.Effects.{Said, Acted}
 use Rattle.invariant.proofs.WalkRows.{restart_ok, walk_ok}
 use Rattle.invariant.proofs.NextRows.{next_ok}
 use Rattle.invariant.proofs.Locking.{Locks, locks_p, locks_n, locks_m, unlocks_m, unlocks_n, unlocks_gone, unlocks_p, acting, lock_ok}

@@ -4,16 +4,16 @@ use Rattle.latches.specs.declared.word.Meaning.{Meaning}
 use Rattle.model.specs.Bytes.{◌≼◌}
 use Rattle.model.specs.Refs.{Ref, leaf, node, root, is, IsNode}
 use Rattle.model.specs.Tree.{Tree, child, prefix, fan, cap, Ghost, Status, Linked, TreeOk, Holds, Entry}
-use Rattle.model.specs.Holds.{Hold, put}
+use Rattle.model.specs.Holds.{Hold}
 use Rattle.model.specs.Operations as op
 use Rattle.model.specs.Operations.{Operation, Task, Course, insert, grow, split, miss, in_place, collapse, items, Item, lock_p, lock_n, lock_m, draw, write_n, write_m, write_p, unlock_m, unlock_n, unlock_n_gone, unlock_p, Drawn, by_key, Stage, look, act, Seat, closed, busy, Outcome, go}
 use Rattle.machine.specs.State.{State, Numbers, WordsAre, with}
 use Rattle.machine.specs.Choices.{key_byte, decided, begun, left}
 use Rattle.machine.specs.Items.{byte_above, Prefixed, fork}
-use Rattle.machine.specs.Steps.{is_next, parent, Follows}
+use Rattle.machine.specs.Steps.{is_next, Follows}
 use Rattle.invariant.specs.Ghosts.{Ghosts, status_of, ghost, place_of, place_at, words_of, Safe, IsLocked, FluxOf, Flux}
-use Rattle.invariant.specs.Seats.{Placed, Decides, Above, Stand, at_root, below, Reads}
-use Rattle.invariant.specs.Courses.{Solo, inserting, splitting, removing, Pair, growing, missing, collapsing, LeafDrawn, NodeDrawn, OneLocked, BothLocked, IsRetired, Joins, Joined, Cut, Acts}
+use Rattle.invariant.specs.Seats.{Placed, Decides, Above, Stand, Reads}
+use Rattle.invariant.specs.Courses.{Solo, Pair, LeafDrawn, NodeDrawn, OneLocked, BothLocked, IsRetired, Joins, Joined, Cut, Acts}
 use Rattle.invariant.specs.Invariant.{Walks, Aims, SeatOk, Spelled}
 use Rattle.invariant.specs.Changes.{Same, LockedBy, wrote, Leaves, HoldsSame, Puts, Drops}
 use Rattle.invariant.proofs.Setting.{Step, true_false, linked_mark, entry_in, entry_reads, locked_steady, no_way, snoc_one, sound_locked}

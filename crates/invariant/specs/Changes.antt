@@ -1,9 +1,9 @@
 -- What a call may change, as the seats that did not make it see it.
-use Rattle.std.specs.Prelude.{◌≡◌, ℕ, ◌<◌, ◌≤◌, cond, ◌⊎◌, List, Some, None, Option, ◌≢◌}
+use Rattle.std.specs.Prelude.{◌≡◌, ℕ, ◌≤◌, cond, ◌⊎◌, List, Some, ◌≢◌}
 use Rattle.model.specs.Refs.{Ref, leaf, root, is, IsNode}
 use Rattle.model.specs.Tree.{child, prefix, Status, TreeOk, Holds}
 use Rattle.model.specs.Holds.{Hold, Locked}
-use Rattle.model.specs.Operations.{Operation, Seat, busy}
+use Rattle.model.specs.Operations.{Operation, busy}
 use Rattle.model_tree.specs.Graft.{Closed, UpTo}
 use Rattle.model_tree.specs.Meets.{Lacks}
 use Rattle.model_tree.specs.Writes.{Added, Removed}

@@ -1,16 +1,16 @@
 -- What holds of a seat whose operation is in a course, by the items that are left.
-use Rattle.std.specs.Prelude.{◌≡◌, ℕ, suc, ◌+◌, ◌-◌, ◌<◌, ◌≤◌, List, [], ◌∷◌, ◌++◌, length, get_or, Some, None, Option}
+use Rattle.std.specs.Prelude.{◌≡◌, ℕ, List, [], ◌∷◌, ◌++◌, Some, None, Option}
 use Rattle.model.specs.Refs.{Ref, leaf, node, Kind, IsNode}
-use Rattle.model.specs.Tree.{Tree, Content, child, prefix, Status, Linked}
+use Rattle.model.specs.Tree.{Content, child, prefix, Status, Linked}
 use Rattle.model.specs.Holds.{Hold}
-use Rattle.model.specs.Operations.{Operation, Task, add, remove, Course, insert, grow, split, miss, in_place, collapse, items, Item, lock_p, lock_n, lock_m, draw, write_n, write_m, write_p, unlock_m, unlock_n, unlock_n_gone, unlock_p, Drawn, Stage}
+use Rattle.model.specs.Operations.{Operation, add, remove, Course, insert, grow, split, miss, in_place, collapse, items, Item, lock_p, lock_n, lock_m, draw, write_n, write_m, write_p, unlock_m, unlock_n, unlock_n_gone, unlock_p, Drawn}
 use Rattle.model_tree.specs.Writes.{Miss, Collapse}
-use Rattle.model_slots.specs.Laws.{Mark, drawn}
+use Rattle.model_slots.specs.Laws.{drawn}
 use Rattle.machine.specs.State.{State, Numbers}
 use Rattle.machine.specs.Choices.{begun}
 use Rattle.machine.specs.Items.{adds, byte_above, filling}
 use Rattle.invariant.specs.Ghosts.{Ghosts, ghost, Permits, IsPermit, IsLocked}
-use Rattle.invariant.specs.Seats.{Placed, Decides, Stand, Reads}
+use Rattle.invariant.specs.Seats.{Placed, Decides, Stand}
 
 -- a course that locks n alone
 pub data Solo : Course → Type 0 where

@@ -4,7 +4,7 @@ use Rattle.std.specs.List.{slice_get}
 use Rattle.keys.specs.Bytes.{First}
 use Rattle.model.specs.Tree.{Holds}
 use Rattle.model.specs.Holds.{Hold}
-use Rattle.model.specs.Operations.{Task, find, add, remove, next, Answer, found, absent, added, present, removed, no_room, first_is, none}
+use Rattle.model.specs.Operations.{Task, find, add, remove, Answer, found, absent, added, present, removed, no_room, first_is, none}
 use Rattle.model_tree.specs.Meets.{Lacks}
 use Rattle.model_next.specs.Next.{FirstFrom}
 use Rattle.machine.specs.State.{State}

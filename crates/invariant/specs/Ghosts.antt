@@ -1,11 +1,10 @@
 -- What the proof keeps beside the state, and how the words of the theories read on it.
-use Rattle.std.specs.Prelude.{◌≡◌, ℕ, ◌<◌, ◌≤◌, ◌⊎◌, List, [], ◌∷◌, Some, None, Option}
-use Rattle.latches.specs.declared.word.Meaning.{Meaning}
+use Rattle.std.specs.Prelude.{◌≡◌, ℕ, ◌<◌, ◌≤◌, ◌⊎◌, List, [], ◌∷◌, Option}
 use Rattle.terms.specs.Limits.{seat_count}
 use Rattle.model.specs.Refs.{Ref, leaf, node, IsNode}
 use Rattle.model.specs.Tree.{Ghost, Status, Linked}
 use Rattle.model.specs.Holds.{Grip, Locked, Hold}
-use Rattle.model.specs.Operations.{Operation, Seat, closed, idle, busy, Course, miss, collapse, Item, write_p, Drawn, Stage, act}
+use Rattle.model.specs.Operations.{Operation, Seat, closed, idle, busy, miss, collapse, Item, write_p, Drawn, act}
 use Rattle.model_words.specs.Words as words
 use Rattle.model_words.specs.Words.{Sound}
 use Rattle.model_words.specs.Places.{Place}

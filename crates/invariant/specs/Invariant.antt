@@ -1,11 +1,11 @@
 -- What holds of the index after every call.
-use Rattle.std.specs.Prelude.{◌≡◌, ℕ, ◌<◌, ◌≤◌, false, ◌⊎◌, List, [], ◌∷◌, ◌++◌, Some, None, Option, ◌≢◌}
-use Rattle.terms.specs.Limits.{seat_count, call_limit}
+use Rattle.std.specs.Prelude.{◌≡◌, ℕ, ◌<◌, ◌≤◌, false, ◌⊎◌, List, [], ◌∷◌, ◌++◌, Some, Option, ◌≢◌}
+use Rattle.terms.specs.Limits.{seat_count}
 use Rattle.model.specs.Bytes.{◌≼◌}
-use Rattle.model.specs.Refs.{Ref, leaf, root, IsNode, pool}
+use Rattle.model.specs.Refs.{Ref, root, IsNode, pool}
 use Rattle.model.specs.Tree.{child, Status, Linked, TreeOk}
 use Rattle.model.specs.Holds.{Hold}
-use Rattle.model.specs.Operations.{Operation, Task, next, Mode, by_key, Stage, take, check_p, look, check_n, act, Answer, Course, Item, Drawn, Seat, closed, busy}
+use Rattle.model.specs.Operations.{Operation, next, by_key, Stage, take, check_p, look, check_n, act, Answer, Course, Item, Drawn, closed, busy}
 use Rattle.model_tree.specs.Graft.{Closed, UpTo}
 use Rattle.model_tree.specs.Writes as writes
 use Rattle.model_words.specs.Words.{WordsOk, Every}
@@ -14,8 +14,8 @@ use Rattle.model_slots.specs.Slots.{count}
 use Rattle.model_slots.specs.Laws.{spare}
 use Rattle.machine.specs.State.{State, Numbers}
 use Rattle.machine.specs.Steps.{is_next}
-use Rattle.invariant.specs.Ghosts.{Ghosts, ghost, place_at, words_of, Flux, Safe, Permits}
-use Rattle.invariant.specs.Seats.{Placed, Decides, Above, Stand, Aloft, Reads}
+use Rattle.invariant.specs.Ghosts.{Ghosts, ghost, place_at, words_of, Flux, Permits}
+use Rattle.invariant.specs.Seats.{Decides, Above, Stand, Aloft, Reads}
 use Rattle.invariant.specs.Courses.{Acts}
 use Rattle.invariant.specs.Nexts.{Nexts}
 

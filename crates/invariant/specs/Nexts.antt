@@ -1,5 +1,5 @@
 -- What holds of a seat whose operation is next.
-use Rattle.std.specs.Prelude.{◌≡◌, ℕ, suc, ◌+◌, ◌<◌, ◌≤◌, List, [], ◌∷◌, ◌++◌, length, Some, None, Option, ◌≢◌}
+use Rattle.std.specs.Prelude.{ℕ, suc, ◌<◌, ◌≤◌, List, [], ◌∷◌, ◌++◌, length, Some, None, Option, ◌≢◌}
 use Rattle.model.specs.Refs.{Ref, leaf, root}
 use Rattle.model.specs.Holds.{Hold}
 use Rattle.model.specs.Operations.{Operation, Answer, none, Mode, by_key, back, down, Stage, take, check_p, look, scan}

@@ -1,15 +1,15 @@
 -- Every rule keeps its operation.
-use Rattle.std.proofs.Common.{◌≡◌, ℕ, zero, suc, List, [], ◌∷◌, Some, None, Option, sym, refl, subst}
+use Rattle.std.proofs.Common.{◌≡◌, ℕ, zero, suc, List, Some, None, Option, sym, refl, subst}
 use Rattle.latches.specs.declared.word.Meaning.{Meaning}
 use Rattle.terms.specs.declared.Cause.{Cause}
 use Rattle.model.specs.Refs.{Ref}
 use Rattle.model.specs.Tree.{Tree}
 use Rattle.model.specs.Holds.{Hold}
-use Rattle.model.specs.Operations.{Operation, Seat, closed, idle, busy, Outcome, go, again, answers, Answer, Course, Item, Drawn, Mode, Stage}
+use Rattle.model.specs.Operations.{Operation, Seat, Outcome, go, Answer, Course, Item, Drawn, Mode, Stage}
 use Rattle.model_next.specs.Look as picks
-use Rattle.machine.specs.State.{State, Numbers, with, anew, Restarts, Ends}
+use Rattle.machine.specs.State.{State, with, anew, Restarts, Ends}
 use Rattle.machine.specs.Steps.{Row, Follows, picked, goes_back}
-use Rattle.machine.specs.Kept.{Asked, Counted, Kept, StepsKeep}
+use Rattle.machine.specs.Kept.{Kept, StepsKeep}
 
 asked : (o : Operation) (m : Mode) (hs : List Hold) (g : Stage) → Kept o (with o m hs g) go
 asked o m hs g = (record { task = refl; key = refl; begun = refl }, refl)

@@ -1,14 +1,13 @@
 -- The history of a run tells its calls, its epoch and its seats.
-use Rattle.std.proofs.Common.{◌≡◌, ℕ, zero, suc, ◌+◌, ◌<◌, ◌≤◌, Bool, true, false, cond, eqb, List, [], ◌∷◌, Some, None, Option, sym, refl, ap, ◌∙◌, subst, arith}
+use Rattle.std.proofs.Common.{◌≡◌, ℕ, suc, ◌≤◌, Bool, true, false, cond, eqb, List, [], ◌∷◌, Some, sym, refl, ap, ◌∙◌, subst, arith}
 use native.Mathlib.Decide.{dec_le}
 use Rattle.std.proofs.lemmas.Bool.{eqb-true, eqb-false}
 use Rattle.terms.specs.Limits.{seat_count, call_limit}
-use Rattle.terms.specs.declared.Refusal.{Refusal}
 use Rattle.model.specs.Operations.{Task, Operation, Seat, closed, idle, busy, Outcome, go, again, answers, Answer}
 use Rattle.machine.specs.State.{State, Numbers}
 use Rattle.machine.specs.Calls.{Call, Reply, ok, came, swept, refused, seat_of, Fits, Accepted, Turns, Swept, Did, started}
 use Rattle.machine.specs.Runs.{Event, New, Run, history}
-use Rattle.machine.specs.Kept.{Kept, Counted}
+use Rattle.machine.specs.Kept.{Kept}
 use Rattle.machine.specs.Told.{Told, shut, free, asked, stepped, plus_call, plus_sweep, accepted, sweeps_of, told, turned, Asks, Agrees, Tells, HistoriesTell}
 use Rattle.machine.proofs.Keeping.{steps_keep_lem}
 

@@ -6,7 +6,7 @@ use Rattle.terms.specs.declared.Refusal.{Refusal}
 use Rattle.terms.specs.declared.Refusal.TheVariants.{NoSuchSeat, NotOpen, AlreadyOpen, Busy, NoOperation, Key, CallLimit}
 use Rattle.model.specs.Refs.{pool, root}
 use Rattle.model.specs.Records.{Record}
-use Rattle.model.specs.Operations.{Task, Mode, by_key, Stage, take, Operation, Seat, closed, idle, busy, Outcome}
+use Rattle.model.specs.Operations.{Task, by_key, take, Operation, Seat, closed, idle, busy, Outcome}
 use Rattle.model_slots.specs.Slots.{both, not, refs, keep, clear}
 use Rattle.machine.specs.State.{State, Numbers, Still, WordsAre}
 use Rattle.machine.specs.Steps.{Row}

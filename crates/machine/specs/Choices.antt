@@ -1,9 +1,9 @@
 -- What follows a look of find, add or remove.
-use Rattle.std.specs.Prelude.{◌≡◌, ℕ, suc, ◌+◌, ◌-◌, Bool, true, false, cond, ◌||◌, List, [], ◌∷◌, length, Some, None, Option, ◌==◌, nat_le, slice_index}
+use Rattle.std.specs.Prelude.{ℕ, ◌+◌, ◌-◌, cond, ◌||◌, List, length, Some, None, Option, ◌==◌, nat_le, slice_index}
 use Rattle.model.specs.Refs.{Ref, root, is}
 use Rattle.model.specs.Tree.{Tree, child, prefix, fan, cap}
 use Rattle.model.specs.Holds.{Hold}
-use Rattle.model.specs.Operations.{Task, find, add, remove, next, Answer, found, present, absent, Course, insert, grow, split, miss, in_place, collapse, items, Stage, check_n, act}
+use Rattle.model.specs.Operations.{Task, find, add, remove, next, found, present, absent, Course, insert, grow, split, miss, in_place, collapse, items, Stage, check_n, act}
 use Rattle.model.specs.Sights.{Seen, stale, empty, missed, other, same_key, onward}
 use Rattle.model_next.specs.Look.{least}
 

@@ -1,11 +1,10 @@
 -- What the items of a course do.
-use Rattle.std.specs.Prelude.{◌≡◌, ℕ, suc, ◌+◌, ◌-◌, Bool, true, false, cond, List, [], ◌∷◌, ◌++◌, length, take, drop, Some, None, Option, ◌==◌, ◌≢◌, slice_index}
+use Rattle.std.specs.Prelude.{◌≡◌, ℕ, suc, ◌+◌, ◌-◌, cond, List, [], ◌∷◌, ◌++◌, length, take, drop, Some, None, Option, ◌==◌, ◌≢◌, slice_index}
 use Rattle.latches.specs.declared.word.Meaning.{Meaning}
 use Rattle.latches.specs.declared.word.Permit.{Permit}
 use Rattle.latches.specs.Rules.{take_refusal, check_refusal, lock_refusal, noted, shared, held, freed, freed_gone, revived}
 use Rattle.terms.specs.declared.Cause.{Cause}
 use Rattle.model.specs.Refs.{Kind, four, sixteen, forty_eight, whole, room, Ref, leaf, node, pool}
-use Rattle.model.specs.Records.{Record}
 use Rattle.model.specs.Tree.{Tree, Content, child, prefix}
 use Rattle.model.specs.Holds.{Grip, Locked, Hold, put}
 use Rattle.model.specs.Operations.{Operation, Course, insert, grow, split, miss, in_place, collapse, Item, lock_p, lock_n, lock_m, draw, write_n, write_m, write_p, unlock_m, unlock_n, unlock_n_gone, unlock_p, Drawn}

@@ -1,5 +1,5 @@
 -- The index as a mathematical value.
-use Rattle.std.specs.Prelude.{◌≡◌, ℕ, suc, List, [], ◌∷◌, ◌++◌}
+use Rattle.std.specs.Prelude.{◌≡◌, ℕ, suc, List, []}
 use Rattle.latches.specs.declared.word.Meaning.{Meaning}
 use Rattle.model.specs.Refs.{Ref, root}
 use Rattle.model.specs.Records.{Record}

@@ -6,9 +6,9 @@ use Rattle.latches.specs.Rules.{take_refusal, noted, shared}
 use Rattle.latches.specs.Rules as latch
 use Rattle.terms.specs.declared.Cause.{Cause}
 use Rattle.terms.specs.declared.Cause.TheVariants.{Changed}
-use Rattle.model.specs.Refs.{Kind, room, Ref, leaf, node, root, is, pool}
+use Rattle.model.specs.Refs.{Kind, room, Ref, leaf, root, is, pool}
 use Rattle.model.specs.Tree.{Tree, prefix}
-use Rattle.model.specs.Holds.{Grip, Locked, Hold, put, let_go_all}
+use Rattle.model.specs.Holds.{Grip, Hold, put, let_go_all}
 use Rattle.model.specs.Operations as op
 use Rattle.model.specs.Operations.{Task, Answer, Course, Item, lock_p, lock_n, lock_m, draw, course_answer, Drawn, Mode, by_key, back, down, Stage, check_p, look, check_n, act, scan, Operation, Seat, Outcome, go}
 use Rattle.model.specs.Sights as sight
@@ -17,7 +17,7 @@ use Rattle.model_next.specs.Look as picks
 use Rattle.model_next.specs.Look.{key_sight, back_sight, down_sight}
 use Rattle.machine.specs.State.{State, Numbers, Still, WordsAre, with, Restarts, Ends}
 use Rattle.machine.specs.Choices.{decided}
-use Rattle.machine.specs.Items.{check_by, lock_by, noted_by, draws, adds, Does, Pooled}
+use Rattle.machine.specs.Items.{check_by, lock_by, draws, Does, Pooled}
 
 -- find, add and remove keep what a walk needs; next keeps everything
 abbrev pub is_next : Task → Bool

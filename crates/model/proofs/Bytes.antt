@@ -1,5 +1,5 @@
 -- Beginnings of byte lists, and small tools.
-use Rattle.std.proofs.Common.{◌≡◌, ℕ, zero, suc, ◌+◌, ◌<◌, ◌≤◌, ◌⊎◌, List, [], ◌∷◌, ◌++◌, length, Some, None, Option, sym, refl, ap, ◌∙◌, subst, inl, inr, append-nil, arith, length-append}
+use Rattle.std.proofs.Common.{◌≡◌, ℕ, suc, ◌≤◌, ◌⊎◌, List, [], ◌∷◌, ◌++◌, length, Some, None, Option, sym, refl, ap, ◌∙◌, subst, inl, inr, arith, length-append}
 use native.Mathlib.Decide.{dec_le, ℕ_discrete}
 use Rattle.model.specs.Bytes.{◌≼◌}
 use Rattle.model.specs.Refs.{Ref, Ref-discrete, Kind-discrete, IsNode}

@@ -1,10 +1,10 @@
 -- What a good tree says of reaching: linked is reached, and paths say who is above whom.
-use Rattle.std.proofs.Common.{◌≡◌, ℕ, zero, suc, ◌+◌, ◌<◌, ◌≤◌, ◌⊎◌, List, [], ◌∷◌, ◌++◌, length, Some, None, Option, sym, refl, ap, ◌∙◌, subst, inl, inr, ⊎_elim, arith}
+use Rattle.std.proofs.Common.{◌≡◌, ℕ, zero, suc, ◌<◌, ◌≤◌, ◌⊎◌, List, [], ◌∷◌, ◌++◌, length, Some, sym, refl, ap, ◌∙◌, subst, inl, inr, ⊎_elim, arith}
 use Rattle.model.specs.Bytes.{◌≼◌}
 use Rattle.model.specs.Refs.{Ref, root, IsNode}
 use Rattle.model.specs.Tree.{Tree, child, Ghost, Linked, TreeOk, Holds, Reach}
-use Rattle.model.specs.Refs.Ref.{leaf, node}
-use Rattle.model.proofs.Bytes.{pick, none_some, some_inj, is_node_lem, ≼_refl, ≼_of, ≼_app, ≼_trans, ≼_len, ≼_same, ≼_both, ≼_or, snoc_len, snoc_byte, snoc_inj}
+use Rattle.model.specs.Refs.Ref.{leaf}
+use Rattle.model.proofs.Bytes.{pick, none_some, some_inj, is_node_lem, ≼_refl, ≼_of, ≼_app, ≼_trans, ≼_len, ≼_or, snoc_len, snoc_byte, snoc_inj}
 
 pub reach_on : (S : Tree) (x y z : Ref) → Reach S x y → Reach S y z → Reach S x z
 reach_on S x y _ r Reach.here = r

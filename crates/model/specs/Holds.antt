@@ -1,5 +1,5 @@
 -- What an operation holds, and how it lets go.
-use Rattle.std.specs.Prelude.{◌≡◌, ℕ, List, [], ◌∷◌}
+use Rattle.std.specs.Prelude.{ℕ, List, [], ◌∷◌}
 use Rattle.latches.specs.declared.word.Meaning.{Meaning}
 use Rattle.latches.specs.Rules.{returned, freed}
 use Rattle.model.specs.Refs.{Ref, same}

@@ -1,5 +1,5 @@
 -- Operations and the stages they go through.
-use Rattle.std.specs.Prelude.{◌≡◌, ℕ, Bool, true, false, cond, ◌||◌, leb, List, [], ◌∷◌, Some, None, Option}
+use Rattle.std.specs.Prelude.{ℕ, List, [], ◌∷◌, Option}
 use Rattle.terms.specs.declared.Cause.{Cause}
 use Rattle.model.specs.Refs.{Ref, leaf, node}
 use Rattle.model.specs.Holds.{Hold}

@@ -1,7 +1,7 @@
 -- What a look at a node sees for a key, by the tree alone.
-use Rattle.std.specs.Prelude.{◌≡◌, ℕ, suc, ◌+◌, ◌-◌, Bool, true, false, cond, List, [], ◌∷◌, length, drop, Some, None, Option, ◌==◌, nat_le}
-use Rattle.model.specs.Refs.{Ref, leaf, node, is, root}
-use Rattle.model.specs.Tree.{Tree, child, prefix, fan, cap}
+use Rattle.std.specs.Prelude.{ℕ, suc, ◌+◌, Bool, true, false, cond, List, [], ◌∷◌, length, drop, Some, None, Option, ◌==◌, nat_le}
+use Rattle.model.specs.Refs.{Ref, leaf, node}
+use Rattle.model.specs.Tree.{Tree, child, prefix}
 
 -- a prefix against the rest of a key: they differ at a place, the key ends, or it goes on past the prefix by a byte
 pub data Met : Type 0 where

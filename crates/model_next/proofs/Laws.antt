@@ -1,16 +1,13 @@
 -- The laws, from their parts.
-use Rattle.std.proofs.Common.{◌≡◌, ℕ, zero, suc, ◌+◌, ◌<◌, ◌≤◌, Bool, true, false, T, ◌⊎◌, List, [], ◌∷◌, ◌++◌, length, get_or, Some, None, Option, sym, refl, ap, ◌∙◌, subst, ap₂, inl, inr, ⊎_elim, arith}
+use Rattle.std.proofs.Common.{◌≡◌, ℕ, zero, suc, ◌<◌, Bool, true, false, T, ◌⊎◌, List, [], ◌∷◌, ◌++◌, length, get_or, Some, None, sym, refl, ap, ◌∙◌, subst, ap₂, inl, inr, ⊎_elim, arith}
 use Rattle.std.proofs.lemmas.Bool.{cases_eq}
 use Rattle.std.specs.List.{AllByRecursion as All}
 use Rattle.model.specs.Bytes.{◌≼◌}
-use Rattle.model.specs.Refs.{Ref, IsNode}
-use Rattle.model.specs.Tree.{Tree, child, Ghost, Linked, TreeOk, Holds}
-use Rattle.model.specs.Refs.Ref.{leaf, node}
-use Rattle.keys.specs.Bytes.{First}
+use Rattle.model.specs.Tree.{Holds}
 use Rattle.model_next.specs.Look.{Hold, taken}
-use Rattle.model_next.specs.Next.{FirstFrom, NextOf, pair_of, Trail, SoundNow}
-use Rattle.model_next.specs.Walk.{Walk, on, scan, place, Seen}
-use Rattle.model_next.specs.Laws.{OrderLaws, TreeLaws, OneAnswer, Bad, WalkLaws, FreshLaws, Best, Good}
+use Rattle.model_next.specs.Next.{FirstFrom}
+use Rattle.model_next.specs.Walk.{place}
+use Rattle.model_next.specs.Laws.{OrderLaws, TreeLaws, OneAnswer, Bad, WalkLaws, FreshLaws}
 use Rattle.model.proofs.Bytes.{snoc_byte}
 use Rattle.model.proofs.Reach
 use Rattle.model_next.proofs.Order.{first_not, first_trans, first_total, comes_first, first_comes, fork, larger_first, smaller_first, same_begins}

@@ -1,9 +1,9 @@
 -- Byte order: total and transitive, and how it goes along beginnings.
-use Rattle.std.proofs.Common.{◌≡◌, ℕ, zero, suc, ◌+◌, ◌<◌, ◌≤◌, Bool, true, false, cond, eqb, ltb, ◌⊎◌, List, [], ◌∷◌, ◌++◌, length, get_or, take, drop, sym, refl, ap, ◌∙◌, subst, ap₂, inl, inr, ⊎_elim, arith, length-append}
-use Rattle.std.proofs.lemmas.Bool.{eqb-true, eqb-false, ltb-true, ltb-false, cases_order, lt-ltb, eq-eqb, ne_eqb, le-ltb}
+use Rattle.std.proofs.Common.{◌≡◌, ℕ, ◌<◌, Bool, true, false, cond, eqb, ltb, ◌⊎◌, List, [], ◌∷◌, ◌++◌, length, get_or, drop, sym, refl, ◌∙◌, ap₂, inl, inr, ⊎_elim, arith}
+use Rattle.std.proofs.lemmas.Bool.{eqb-true, eqb-false, ltb-true, ltb-false, cases_order, lt-ltb, eq-eqb, ne_eqb}
 use Rattle.model.specs.Bytes.{◌≼◌}
 use Rattle.keys.specs.Bytes.{First}
-use Rattle.model_next.specs.Bytes.{comes, Compared, larger, smaller, ended, same, against}
+use Rattle.model_next.specs.Bytes.{comes, larger, smaller, ended, same, against}
 
 pub first_not : (u : List ℕ) → First u u → ⊥
 first_not [] f = f

@@ -1,10 +1,10 @@
 -- A look reads its node, and the key of the leaf under the key's byte: where these stay, it sees the same.
-use Rattle.std.proofs.Common.{◌≡◌, ℕ, suc, ◌+◌, cond, leb, List, length, drop, Some, None, Option, sym, refl, ap, ◌∙◌, subst, ap₂}
+use Rattle.std.proofs.Common.{◌≡◌, ℕ, suc, ◌+◌, cond, leb, List, length, drop, Some, None, Option, refl, ap, ◌∙◌, ap₂}
 use Rattle.model.specs.Refs.{Ref}
 use Rattle.model.specs.Tree.{Tree, child, prefix}
 use Rattle.model.specs.Refs.Ref.{leaf, node}
 use Rattle.model_next.specs.Bytes.{comes, Compared, larger, smaller, ended, same, against}
-use Rattle.model_next.specs.Look.{Sight, stale, back, got, least, picked, smallest, past, under, keyed, within, key_sight, back_sight, down_sight, Hold}
+use Rattle.model_next.specs.Look.{Sight, stale, back, got, least, picked, smallest, past, under, keyed, key_sight, back_sight, down_sight, Hold}
 use Rattle.model_next.specs.Walk.{Stays}
 
 module _ (k : List ℕ) (S S' : Tree) (x : Ref) (p : prefix S' x ≡ prefix S x) (c : child S' x ≡ child S x)

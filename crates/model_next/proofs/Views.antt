@@ -1,12 +1,12 @@
 -- What a look of `next` says of a node, read off its outcome.
-use Rattle.std.proofs.Common.{◌≡◌, ℕ, zero, suc, ◌+◌, ◌-◌, ◌<◌, ◌≤◌, Bool, true, false, cond, leb, ◌⊎◌, List, [], ◌∷◌, ◌++◌, length, get_or, drop, Some, None, Option, sym, refl, ap, ◌∙◌, subst, inl, inr, ⊎_elim, arith}
+use Rattle.std.proofs.Common.{◌≡◌, ℕ, zero, suc, ◌+◌, ◌-◌, ◌<◌, ◌≤◌, Bool, true, false, cond, leb, List, length, drop, Some, None, Option, sym, refl, ap, ◌∙◌, subst, ⊎_elim, arith}
 use Rattle.std.proofs.lemmas.Bool.{cases_eq}
 use Rattle.model.specs.Refs.{Ref, IsNode}
 use Rattle.model.specs.Tree.{Tree, child, prefix, one, count, fan}
 use Rattle.model.specs.Refs.Ref.{leaf, node}
 use Rattle.keys.specs.Bytes.{First}
 use Rattle.model_next.specs.Bytes.{comes, Compared, larger, smaller, ended, same, against}
-use Rattle.model_next.specs.Look.{Sight, stale, back, onward, aside, got, or_else, least, smallest, past, picks, picked, under, keyed, within, key_sight, back_sight, down_sight}
+use Rattle.model_next.specs.Look.{Sight, stale, back, onward, aside, got, or_else, least, smallest, past, picks, picked, under, keyed, key_sight, back_sight, down_sight}
 use Rattle.model.proofs.Bytes.{none_some}
 use Rattle.model_next.proofs.Order.{comes_first, first_comes}
 

@@ -1,10 +1,10 @@
 -- Each step of `next`, and each step of others, leaves true what it has seen.
-use Rattle.std.proofs.Common.{◌≡◌, ℕ, zero, suc, ◌+◌, List, [], ◌∷◌, ◌++◌, length, get_or, Some, None, Option, sym, refl, ap, ◌∙◌, subst, arith}
+use Rattle.std.proofs.Common.{◌≡◌, ℕ, zero, suc, List, [], ◌∷◌, ◌++◌, length, Some, None, Option, refl, ap, ◌∙◌, subst, arith}
 use Rattle.std.specs.List.{AllByRecursion as All}
 use Rattle.model.specs.Refs.{Ref, root}
 use Rattle.model.specs.Tree.{Tree}
-use Rattle.model_next.specs.Look.{Sight, stale, back, onward, aside, got, picked, key_sight, back_sight, down_sight, Hold, taken, Saw, SawDown, Led, past}
-use Rattle.model_next.specs.Next.{Past, Trail}
+use Rattle.model_next.specs.Look.{Sight, stale, back, onward, aside, got, key_sight, back_sight, down_sight, Hold, taken, Saw, SawDown, Led, past}
+use Rattle.model_next.specs.Next.{Trail}
 use Rattle.model_next.specs.Walk.{Stage, take_key, check_key, look_key, look_back, take_down, check_down, look_down, scan, Walk, start, on, newest, place, hold, leaves, looked, looked_down, Goes, Links, DownLinks, DownOpen, DownTo, SeenAt, Seen, Stays, HeldStays}
 use Rattle.model_next.proofs.Views.{back_view, picked_not}
 

@@ -1,5 +1,5 @@
 -- Byte-by-byte order of byte lists, computed.
-use Rattle.std.specs.Prelude.{◌≡◌, ℕ, ◌<◌, Bool, true, false, cond, ◌⊎◌, List, [], ◌∷◌, ◌++◌, ◌==◌, nat_lt}
+use Rattle.std.specs.Prelude.{ℕ, Bool, true, false, cond, List, [], ◌∷◌, ◌==◌, nat_lt}
 
 -- whether one list comes before another, byte by byte
 abbrev pub comes : List ℕ → List ℕ → Bool

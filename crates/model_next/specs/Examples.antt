@@ -1,8 +1,8 @@
 -- A small tree, and what looks see in it: 1, 2 and 256 as four bytes each, highest first, the top bit flipped.
 use Rattle.std.specs.Prelude.{◌≡◌, ℕ, zero, suc, cond, List, [], ◌∷◌, Some, None, Option, ◌==◌}
 use Rattle.model.specs.Refs.{Ref, leaf, node, Kind, four, sixteen, forty_eight, whole, root}
-use Rattle.model.specs.Tree.{Content, Entry, Tree}
-use Rattle.model_next.specs.Look.{Sight, stale, back, onward, aside, got, key_sight, back_sight, down_sight}
+use Rattle.model.specs.Tree.{Tree}
+use Rattle.model_next.specs.Look.{stale, back, onward, aside, got, key_sight, back_sight, down_sight}
 
 abbrev pub kids : Kind → ℕ → ℕ → Option Ref
 kids four zero b = cond (b == 1) (Some (leaf 0)) (cond (b == 2) (Some (leaf 1)) None)

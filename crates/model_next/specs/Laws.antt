@@ -1,12 +1,12 @@
 -- The statements that the crate stands for.
-use Rattle.std.specs.Prelude.{◌≡◌, ℕ, zero, suc, ◌<◌, ◌≤◌, Bool, true, false, T, ◌⊎◌, List, [], ◌∷◌, ◌++◌, length, Some, None, Option, ◌≢◌, slice_index, slice_index_or}
+use Rattle.std.specs.Prelude.{◌≡◌, ℕ, suc, ◌<◌, ◌≤◌, Bool, true, false, T, ◌⊎◌, List, [], ◌∷◌, ◌++◌, length, Some, Option, ◌≢◌, slice_index, slice_index_or}
 use Rattle.model.specs.Bytes.{◌≼◌}
 use Rattle.model.specs.Refs.{Ref, leaf, IsNode}
 use Rattle.model.specs.Tree.{Tree, child, Ghost, Linked, TreeOk, Holds}
 use Rattle.keys.specs.Bytes.{First}
 use Rattle.model_next.specs.Bytes.{comes, larger, smaller, same, against}
 use Rattle.std.specs.List.{AllByRecursion as All}
-use Rattle.model_next.specs.Look.{Sight, stale, key_sight, back_sight, down_sight, smallest, Hold, taken}
+use Rattle.model_next.specs.Look.{stale, key_sight, back_sight, down_sight, smallest, Hold, taken}
 use Rattle.model_next.specs.Next.{NextOf, pair_of}
 use Rattle.model_next.specs.Walk.{Walk, on, look_key, look_back, look_down, scan, newest, place, Goes, Seen, Stays, HeldStays}
 

@@ -1,5 +1,5 @@
 -- What a look of `next` at a node sees, and the nodes that it holds.
-use Rattle.std.specs.Prelude.{◌≡◌, ℕ, zero, suc, ◌+◌, ◌-◌, Bool, true, false, cond, List, [], ◌∷◌, ◌++◌, length, drop, Some, None, Option, nat_le, slice_index}
+use Rattle.std.specs.Prelude.{◌≡◌, ℕ, zero, suc, ◌+◌, ◌-◌, cond, List, [], ◌∷◌, length, drop, Some, None, Option, nat_le, slice_index}
 use Rattle.model.specs.Refs.{Ref, leaf, node}
 use Rattle.model.specs.Tree.{Tree, child, prefix}
 use Rattle.model_next.specs.Bytes.{comes, Compared, larger, smaller, ended, same, against}

@@ -1,5 +1,5 @@
 -- What `next` answers, and that what it holds shows it.
-use Rattle.std.specs.Prelude.{◌≡◌, ℕ, zero, suc, ◌<◌, Bool, T, List, [], ◌∷◌, ◌++◌, Some, None, Option, slice_index}
+use Rattle.std.specs.Prelude.{◌≡◌, ℕ, ◌<◌, Bool, T, List, ◌∷◌, Some, None, Option, slice_index}
 use Rattle.std.specs.List.{AllByRecursion as All}
 use Rattle.model.specs.Refs.{Ref, root}
 use Rattle.model.specs.Tree.{Tree, Ghost, TreeOk, Holds}

@@ -1,9 +1,8 @@
 -- What the machine holds agrees with what the events say.
-use Rattle.std.proofs.Common.{◌≡◌, ℕ, zero, suc, ◌+◌, ◌<◌, ◌≤◌, Bool, true, false, cond, eqb, ltb, ◌⊎◌, List, [], ◌∷◌, ◌++◌, Some, None, Option, sym, refl, ap, ◌∙◌, subst, inl, inr, ⊎_elim, arith, eq-eqb, ne_eqb, eqb-true}
-use borrow.Author.Tests.{eqb-false}
+use Rattle.std.proofs.Common.{◌≡◌, ℕ, suc, ◌+◌, Bool, true, false, cond, eqb, ◌⊎◌, List, [], ◌∷◌, ◌++◌, Some, None, Option, sym, refl, ap, ◌∙◌, subst, inl, inr, ⊎_elim, arith, eq-eqb, eqb-true}
 use Rattle.model.specs.Refs.{Ref, pool, is}
 use Rattle.model.specs.Records.{Record}
-use Rattle.model_slots.specs.Slots.{bit, both, not, count, has, tail, refs, stamped, keep, late, clear, freed, State, Event, May, after, New, Run, history}
+use Rattle.model_slots.specs.Slots.{bit, both, not, count, has, tail, refs, stamped, keep, clear, freed, State, Event, May, after, New, Run, history}
 use Rattle.model_slots.specs.Slots.Event.{begin, answer, draw, back, write, sweep, other}
 use Rattle.model_slots.specs.Laws.{Mark, mark, swept, sweeps, opens, is_spare, is_linked, is_retired, is_drawn}
 use Rattle.model_slots.specs.Laws.Mark.{linked, spare, outside, drawn, retired}

@@ -1,10 +1,8 @@
 -- Counting in lists.
-use Rattle.std.proofs.Common.{◌≡◌, ℕ, zero, suc, ◌+◌, ◌<◌, ◌≤◌, Bool, true, false, cond, eqb, ltb, ◌⊎◌, List, [], ◌∷◌, ◌++◌, Some, None, Option, sym, refl, ap, ◌∙◌, subst, inl, inr, ⊎_elim, arith}
-use native.Mathlib.Decide.{ℕ_discrete}
-use Rattle.std.proofs.lemmas.Bool.Decides.{eqb_tells, nat_tests}
-use Rattle.model.specs.Refs.{Ref, same, pool, is}
+use Rattle.std.proofs.Common.{◌≡◌, ℕ, zero, suc, ◌+◌, ◌<◌, ◌≤◌, Bool, true, false, cond, ◌⊎◌, List, [], ◌∷◌, ◌++◌, Option, sym, refl, ap, inl, inr, ⊎_elim, arith}
+use Rattle.model.specs.Refs.{Ref, same, is}
 use Rattle.model.specs.Records.{Record}
-use Rattle.model_slots.specs.Slots.{bit, both, not, count, has, tail, refs, stamped, keep, late, clear}
+use Rattle.model_slots.specs.Slots.{bit, both, count, has, refs, stamped, keep, clear}
 
 pub is_tells : (x y : Ref) → ((is x y ≡ true) × (x ≡ y)) ⊎ ((is x y ≡ false) × (x ≡ y → ⊥))
 unfolding is

@@ -1,14 +1,14 @@
 -- The promise, from the agreement.
-use Rattle.std.proofs.Common.{◌≡◌, ℕ, zero, suc, ◌+◌, ◌<◌, ◌≤◌, Bool, true, false, cond, eqb, ltb, ◌⊎◌, List, [], ◌∷◌, ◌++◌, length, Some, None, Option, sym, refl, ap, ◌∙◌, subst, inl, inr, ⊎_elim, arith, ltb-false, ltb-true, lt-ltb, eq-eqb, eqb-true}
+use Rattle.std.proofs.Common.{◌≡◌, ℕ, zero, suc, ◌<◌, ◌≤◌, Bool, true, false, cond, eqb, ◌⊎◌, List, [], ◌∷◌, length, Some, None, Option, sym, refl, ap, ◌∙◌, subst, inl, inr, ⊎_elim, arith, ltb-true, lt-ltb, eq-eqb, eqb-true}
 use native.Mathlib.Decide.{ℕ_discrete}
-use Rattle.model.specs.Refs.{Ref, pool, is}
+use Rattle.model.specs.Refs.{Ref, pool}
 use Rattle.model.specs.Records.{Record}
-use Rattle.model_slots.specs.Slots.{bit, both, not, count, has, refs, keep, late, clear, freed, State, Event, May, after, Run, history}
+use Rattle.model_slots.specs.Slots.{bit, both, count, has, refs, keep, late, clear, freed, State, Event, May, Run, history}
 use Rattle.model_slots.specs.Slots.Event.{begin, answer, draw, back, write, sweep, other}
-use Rattle.model_slots.specs.Laws.{Mark, mark, swept, sweeps, opens, is_spare, is_linked, is_retired, is_drawn, Clear, Still, Waits, Linked, Spare, Drawn, Retired, One, Queued, Counted, Promise}
+use Rattle.model_slots.specs.Laws.{Mark, mark, swept, sweeps, opens, is_spare, is_linked, is_retired, Clear, Still, Waits, Linked, Spare, Drawn, Retired, One, Queued, Counted, Promise}
 use Rattle.model_slots.specs.Laws.Mark.{linked, spare, outside, drawn, retired}
-use Rattle.model_slots.proofs.Lists.{is_tells, bit_most, bit_true, both_true, count_keep, count_keep_most, clear_same}
-use Rattle.model_slots.proofs.Keeps.{never, spare_of, linked_of, retired_of, Inv, Good, good, draw_was, back_was, old_was, new_was, alike}
+use Rattle.model_slots.proofs.Lists.{is_tells, bit_true, both_true, count_keep, count_keep_most, clear_same}
+use Rattle.model_slots.proofs.Keeps.{never, spare_of, retired_of, good, draw_was, back_was, old_was, new_was, alike}
 
 pub queued : {root : Ref} {all : Ref → Bool} {σ : State} (r : Run root all σ) (x : Ref) (p : ℕ) → Queued root all (history r) σ x p
 queued {root} {all} {σ} r x p =

@@ -1,12 +1,11 @@
 -- The promise in its words, from the marks.
-use Rattle.std.proofs.Common.{◌≡◌, ℕ, suc, ◌<◌, ◌≤◌, Bool, true, false, cond, eqb, ◌⊎◌, List, [], ◌∷◌, length, sym, refl, ap, ◌∙◌, subst, inl, inr, ⊎_elim, arith, eq-eqb}
+use Rattle.std.proofs.Common.{◌≡◌, ℕ, suc, Bool, true, false, cond, List, [], ◌∷◌, sym, refl, ap, ◌∙◌, subst, inl, inr, ⊎_elim, eq-eqb}
 use Rattle.model.specs.Refs.{Ref, pool, is}
-use Rattle.model_slots.specs.Slots.{clear, count, has, State, Event, May, after, Run, history}
+use Rattle.model_slots.specs.Slots.{clear, has, State, Event, May, Run, history}
 use Rattle.model_slots.specs.Slots.Event.{begin, answer, draw, back, write, sweep, other}
-use Rattle.model_slots.specs.Laws.{Mark, mark, swept, sweeps, opens, is_spare, is_linked, is_retired, is_drawn, Clear, Still, Waits, Linked, Spare, Drawn, Retired, One, Queued, Counted, Promise}
+use Rattle.model_slots.specs.Laws.{Mark, mark, swept, sweeps, opens, is_spare, is_retired, is_drawn, Clear, Still, Waits, Spare, Drawn, Retired}
 use Rattle.model_slots.specs.Laws.Mark.{linked, spare, outside, drawn, retired}
-use Rattle.model_slots.specs.Words.{drawn_by, retired_by, spare_by, Words}
-use Rattle.model_slots.specs.Told.{IsLinked, IsSpare, IsDrawn, IsRetired, Single, Turned, Origin, Told}
+use Rattle.model_slots.specs.Told.{IsSpare, IsDrawn, IsRetired, Single, Turned, Origin, Told}
 use Rattle.model_slots.proofs.Keeps.{never, spare_of, drawn_of, retired_of, good}
 use Rattle.model_slots.proofs.Promised.{promise, clear_from}
 use Rattle.model_slots.proofs.Words.{words}

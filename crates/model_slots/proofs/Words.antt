@@ -1,13 +1,13 @@
 -- The words are the marks.
-use Rattle.std.proofs.Common.{◌≡◌, ℕ, zero, suc, ◌+◌, ◌<◌, ◌≤◌, Bool, true, false, cond, eqb, ltb, ◌⊎◌, List, [], ◌∷◌, ◌++◌, Option, sym, refl, ap, ◌∙◌, subst, inl, inr, ⊎_elim, arith, eq-eqb, eqb-true}
+use Rattle.std.proofs.Common.{◌≡◌, ℕ, Bool, true, false, cond, eqb, List, [], ◌∷◌, sym, refl, ap, ◌∙◌, subst, ⊎_elim, arith, eq-eqb, eqb-true}
 use Rattle.model.specs.Refs.{Ref, pool, is}
-use Rattle.model_slots.specs.Slots.{bit, both, not, count, has, clear, State, Event, May, after, New, Run, history}
+use Rattle.model_slots.specs.Slots.{bit, both, not, count, has, clear, State, Event, May, after, Run, history}
 use Rattle.model_slots.specs.Slots.Event.{begin, answer, draw, back, write, sweep, other}
-use Rattle.model_slots.specs.Laws.{Mark, mark, swept, sweeps, opens, is_spare, is_linked, is_retired, is_drawn}
+use Rattle.model_slots.specs.Laws.{Mark, mark, swept, sweeps, opens, is_spare, is_retired, is_drawn}
 use Rattle.model_slots.specs.Laws.Mark.{linked, spare, outside, drawn, retired}
-use Rattle.model_slots.specs.Words.{either, since, never, draws, draws_by, ends, unlinks, frees, returns, drawn_by, retired_by, spare_by, Words}
-use Rattle.model_slots.proofs.Lists.{is_tells, bit_most, bit_true, has_none, has_some, has_counted}
-use Rattle.model_slots.proofs.Keeps.{never as clash, Inv, Good, good, next, draw_was, back_was, old_was, new_was}
+use Rattle.model_slots.specs.Words.{either, since, never, draws, frees, returns, drawn_by, retired_by, spare_by, Words}
+use Rattle.model_slots.proofs.Lists.{is_tells, has_some, has_counted}
+use Rattle.model_slots.proofs.Keeps.{never as clash, good, next, draw_was, back_was, old_was, new_was}
 
 both_yes : (b : Bool) → both b true ≡ b
 both_yes true = refl

@@ -1,7 +1,7 @@
 -- What each slot is, told from the events alone, and what every run keeps.
-use Rattle.std.specs.Prelude.{◌≡◌, ℕ, zero, suc, ◌+◌, ◌<◌, ◌≤◌, Bool, true, false, cond, ◌⊎◌, List, [], ◌∷◌, length, Some, None, Option, ◌==◌}
+use Rattle.std.specs.Prelude.{◌≡◌, ℕ, suc, ◌<◌, ◌≤◌, Bool, true, false, cond, ◌⊎◌, List, [], ◌∷◌, length, Some, None, Option, ◌==◌}
 use Rattle.model.specs.Refs.{Ref, pool, is}
-use Rattle.model_slots.specs.Slots.{bit, both, not, count, has, clear, State, Event, May, after, Run, history}
+use Rattle.model_slots.specs.Slots.{count, has, clear, State, Event, May, Run, history}
 use Rattle.model_slots.specs.Slots.Event.{begin, answer, draw, back, write, sweep, other}
 
 -- how many sweeps there were

@@ -1,7 +1,7 @@
 -- The promise of slots, over runs.
-use Rattle.std.specs.Prelude.{◌≡◌, ℕ, suc, ◌<◌, ◌≤◌, Bool, true, false, ◌⊎◌, List, [], ◌∷◌, length}
+use Rattle.std.specs.Prelude.{◌≡◌, ℕ, suc, ◌<◌, Bool, true, ◌⊎◌, List, ◌∷◌, length}
 use Rattle.model.specs.Refs.{Ref, pool}
-use Rattle.model_slots.specs.Slots.{count, has, State, Event, May, after, Run, history}
+use Rattle.model_slots.specs.Slots.{count, has, State, Event, May, Run, history}
 use Rattle.model_slots.specs.Slots.Event.{write, sweep}
 use Rattle.model_slots.specs.Laws.{sweeps, Clear, Waits}
 use Rattle.model_slots.specs.Words.{drawn_by, retired_by, spare_by}

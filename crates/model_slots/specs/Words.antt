@@ -1,7 +1,7 @@
 -- Drawn, retired and spare, each by what happened last, and that they are the marks.
-use Rattle.std.specs.Prelude.{◌≡◌, ℕ, Bool, true, false, cond, List, [], ◌∷◌, ◌==◌}
+use Rattle.std.specs.Prelude.{◌≡◌, ℕ, Bool, true, false, ◌==◌}
 use Rattle.model.specs.Refs.{Ref, pool, is}
-use Rattle.model_slots.specs.Slots.{both, not, has, State, Event, May, after, Run, history}
+use Rattle.model_slots.specs.Slots.{both, not, has, State, Event, after, Run, history}
 use Rattle.model_slots.specs.Slots.Event.{begin, answer, draw, back, write, sweep, other}
 use Rattle.model_slots.specs.Laws.{mark, is_spare, is_retired, is_drawn}
 

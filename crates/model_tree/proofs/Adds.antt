@@ -1,14 +1,14 @@
 -- The writes of an add keep the tree good, and add the key.
-use Rattle.std.proofs.Common.{◌≡◌, ℕ, zero, suc, ◌+◌, ◌<◌, ◌≤◌, ◌⊎◌, List, [], ◌∷◌, ◌++◌, length, Some, None, Option, sym, refl, ap, ◌∙◌, subst, inl, inr, ⊎_elim, arith}
+use Rattle.std.proofs.Common.{◌≡◌, ℕ, ◌<◌, ◌≤◌, List, [], ◌∷◌, ◌++◌, length, Some, sym, refl, ap, ◌∙◌, subst, inl, inr, ⊎_elim, arith}
 use native.Mathlib.Decide.{ℕ_discrete}
 use Rattle.model.specs.Bytes.{◌≼◌}
 use Rattle.model.specs.Refs.{Ref, root, IsNode}
-use Rattle.model.specs.Tree.{Tree, Entry, child, prefix, count, one, fan, cap, Ghost, Status, Linked, Retired, TreeOk, Holds}
-use Rattle.model.specs.Refs.Ref.{leaf, node}
-use Rattle.model.specs.Tree.Status.{linked, spare, drawn, retired}
-use Rattle.model_tree.specs.Graft.{In, All, KidOf, Wrote, Turned, Fits, Grown, Graft, Closed, UpTo}
-use Rattle.model_tree.specs.Writes.{Laws, Fresh, Fork, Insert, Split, Grow, Miss, After, Added}
-use Rattle.model.proofs.Bytes.{none_some, some_inj, is_node_lem, ≼_app, ≼_trans}
+use Rattle.model.specs.Tree.{Tree, child, prefix, one, fan, Ghost, Linked, TreeOk}
+use Rattle.model.specs.Refs.Ref.{leaf}
+use Rattle.model.specs.Tree.Status.{drawn}
+use Rattle.model_tree.specs.Graft.{In, KidOf, Wrote, Turned, Graft}
+use Rattle.model_tree.specs.Writes.{Laws, Insert, Split, Grow, Miss, After, Added}
+use Rattle.model.proofs.Bytes.{none_some, some_inj}
 use Rattle.model.proofs.Reach.{past}
 use Rattle.model_tree.proofs.Graft.{grafted, closed_after, count_put}
 use Rattle.model_tree.proofs.Turn.{Place, to, turn, turns, assign_same, assign_next}

@@ -1,10 +1,9 @@
 -- What touches nothing linked keeps the tree good.
-use Rattle.std.proofs.Common.{◌≡◌, ℕ, ◌+◌, ◌<◌, ◌≤◌, ◌⊎◌, List, [], ◌∷◌, ◌++◌, length, Some, None, Option, sym, refl, ap, ◌∙◌, subst, inl, inr, ⊎_elim}
+use Rattle.std.proofs.Common.{◌≡◌, ℕ, ◌<◌, ◌≤◌, ◌⊎◌, List, [], ◌∷◌, ◌++◌, length, sym, ap, ◌∙◌, subst, inl, inr, ⊎_elim}
 use Rattle.model.specs.Bytes.{◌≼◌}
-use Rattle.model.specs.Refs.{Ref, root, IsNode}
-use Rattle.model.specs.Tree.{Tree, Entry, child, prefix, fan, cap, Ghost, Linked, Retired, TreeOk, Holds}
-use Rattle.model.specs.Refs.Ref.{leaf, node}
-use Rattle.model.specs.Tree.Status.{linked, spare, drawn, retired}
+use Rattle.model.specs.Refs.{Ref, root}
+use Rattle.model.specs.Tree.{Tree, Entry, child, prefix, fan, Ghost, Linked, Retired, TreeOk, Holds}
+use Rattle.model.specs.Refs.Ref.{leaf}
 use Rattle.model_tree.specs.Graft.{Closed}
 use Rattle.model_tree.specs.Writes.{Aside}
 use Rattle.model_tree.proofs.Graft.{count_same}

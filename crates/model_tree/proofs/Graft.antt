@@ -1,13 +1,13 @@
 -- An exchange of one child keeps the tree good.
-use Rattle.std.proofs.Common.{◌≡◌, ℕ, zero, suc, ◌+◌, ◌<◌, ◌≤◌, ◌⊎◌, List, [], ◌∷◌, ◌++◌, length, Some, None, Option, sym, refl, ap, ◌∙◌, subst, inl, inr, ⊎_elim, arith}
+use Rattle.std.proofs.Common.{◌≡◌, ℕ, zero, suc, ◌+◌, ◌<◌, ◌≤◌, ◌⊎◌, List, [], ◌∷◌, ◌++◌, length, Some, Option, sym, refl, ap, ◌∙◌, subst, inl, inr, ⊎_elim, arith}
 use native.Mathlib.Decide.{ℕ_discrete}
 use Rattle.model.specs.Bytes.{◌≼◌}
 use Rattle.model.specs.Refs.{Ref, root, IsNode}
-use Rattle.model.specs.Tree.{Tree, Entry, child, prefix, count, one, fan, cap, Ghost, Status, Linked, Retired, TreeOk, Holds}
-use Rattle.model.specs.Refs.Ref.{leaf, node}
-use Rattle.model.specs.Tree.Status.{linked, spare, drawn, retired}
-use Rattle.model_tree.specs.Graft.{In, All, KidOf, Wrote, Turned, Fits, Grown, Graft, Closed, UpTo}
-use Rattle.model.proofs.Bytes.{pick, none_some, some_inj, is_node_lem, cons_nil, ≼_refl, ≼_of, ≼_app, ≼_trans, ≼_len, snoc_len}
+use Rattle.model.specs.Tree.{Tree, Entry, child, prefix, count, one, fan, cap, Ghost, Status, Linked, Retired, TreeOk}
+use Rattle.model.specs.Refs.Ref.{leaf}
+use Rattle.model.specs.Tree.Status.{linked, drawn, retired}
+use Rattle.model_tree.specs.Graft.{In, All, KidOf, Fits, Grown, Graft, Closed, UpTo}
+use Rattle.model.proofs.Bytes.{pick, snoc_len}
 use Rattle.model.proofs.Reach.{parent_one}
 
 pub all_in : (P : Ref → Type 0) (ys : List Ref) → All P ys → (x : Ref) → In x ys → P x

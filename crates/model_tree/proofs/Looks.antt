@@ -1,14 +1,14 @@
 -- What is seen at a node tells whether the key is held, and gives what the writes need.
-use Rattle.std.proofs.Common.{◌≡◌, ℕ, zero, suc, ◌+◌, ◌<◌, ◌≤◌, ◌⊎◌, List, [], ◌∷◌, ◌++◌, length, Some, None, Option, sym, refl, ap, ◌∙◌, subst, inl, inr, ⊎_elim, append_assoc, arith}
+use Rattle.std.proofs.Common.{◌≡◌, ℕ, ◌+◌, ◌<◌, List, [], ◌∷◌, ◌++◌, length, Some, None, sym, refl, ap, ◌∙◌, subst, append_assoc, arith}
 use native.Mathlib.Decide.{ℕ_discrete}
 use Rattle.model.specs.Bytes.{◌≼◌}
-use Rattle.model.specs.Refs.{Ref, root, IsNode}
+use Rattle.model.specs.Refs.{Ref, IsNode}
 use Rattle.model.specs.Tree.{Tree, child, prefix, Ghost, Linked, TreeOk, Holds}
-use Rattle.model.specs.Refs.Ref.{leaf, node}
+use Rattle.model.specs.Refs.Ref.{leaf}
 use Rattle.model_tree.specs.Writes.{Laws}
 use Rattle.model_tree.specs.Meets.{Meet, Stands, Lacks}
-use Rattle.model.proofs.Bytes.{none_some, some_inj, ≼_refl, ≼_app, ≼_of, ≼_trans, ≼_under, ≼_len, ≼_rest, snoc_byte, snoc_len}
-use Rattle.model.proofs.Reach.{absent, present}
+use Rattle.model.proofs.Bytes.{none_some, some_inj, ≼_app, ≼_trans, ≼_under, ≼_rest, snoc_byte, snoc_len}
+use Rattle.model.proofs.Reach.{absent}
 
 pub meet : (p r : List ℕ) → Meet p r
 meet [] [] = Meet.ends tt

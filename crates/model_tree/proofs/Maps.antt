@@ -1,5 +1,5 @@
 -- What the writes are to the map of what is held.
-use Rattle.std.proofs.Common.{◌≡◌, ℕ, ◌⊎◌, List, Some, None, Option, sym, refl, ap, ◌∙◌, subst, inl, inr, ⊎_elim}
+use Rattle.std.proofs.Common.{◌≡◌, ℕ, ◌⊎◌, List, Some, None, Option, sym, ap, ◌∙◌, subst, inl, inr, ⊎_elim}
 use mathlib.Core.List.{List-discrete}
 use native.Mathlib.Decide.{ℕ_discrete}
 use Rattle.model.specs.Tree.{Tree, Ghost, Holds}

@@ -1,9 +1,9 @@
 -- A write of a prefix alone keeps the tree good, with its node in flux.
-use Rattle.std.proofs.Common.{◌≡◌, ℕ, ◌+◌, ◌<◌, ◌≤◌, ◌⊎◌, List, [], ◌∷◌, ◌++◌, length, Some, None, Option, sym, refl, ap, ◌∙◌, subst, inl, inr, ⊎_elim}
+use Rattle.std.proofs.Common.{◌≡◌, ℕ, ◌≤◌, List, ◌++◌, sym, ap, ◌∙◌, subst, inl, inr, ⊎_elim}
 use Rattle.model.specs.Bytes.{◌≼◌}
-use Rattle.model.specs.Refs.{Ref, root, IsNode}
-use Rattle.model.specs.Tree.{Tree, Entry, child, prefix, fan, cap, Ghost, Linked, Retired, TreeOk, Holds}
-use Rattle.model.specs.Refs.Ref.{leaf, node}
+use Rattle.model.specs.Refs.{Ref, root}
+use Rattle.model.specs.Tree.{Tree, Entry, child, fan, cap, Ghost, TreeOk}
+use Rattle.model.specs.Refs.Ref.{leaf}
 use Rattle.model_tree.specs.Writes.{Moves}
 use Rattle.model.proofs.Bytes.{pick}
 use Rattle.model_tree.proofs.Graft.{count_same}

@@ -1,16 +1,16 @@
 -- What the writes share.
-use Rattle.std.proofs.Common.{◌≡◌, ℕ, zero, suc, ◌+◌, ◌<◌, ◌≤◌, ◌⊎◌, List, [], ◌∷◌, ◌++◌, length, Some, None, Option, sym, refl, ap, ◌∙◌, subst, inl, inr, ⊎_elim, arith}
+use Rattle.std.proofs.Common.{◌≡◌, ℕ, zero, suc, ◌+◌, ◌<◌, ◌≤◌, List, [], ◌∷◌, ◌++◌, length, Some, Option, sym, ap, ◌∙◌, subst, inl, inr, ⊎_elim, arith}
 use native.Mathlib.Decide.{ℕ_discrete}
 use Rattle.model.specs.Bytes.{◌≼◌}
-use Rattle.model.specs.Refs.{Ref, root, IsNode}
-use Rattle.model.specs.Tree.{Tree, Entry, child, prefix, count, one, fan, cap, Ghost, Status, Linked, Retired, TreeOk, Holds}
-use Rattle.model.specs.Refs.Ref.{leaf, node}
-use Rattle.model.specs.Tree.Status.{linked, spare, drawn, retired}
-use Rattle.model_tree.specs.Graft.{In, All, KidOf, Wrote, Turned, Fits, Grown, Graft, Closed, UpTo}
+use Rattle.model.specs.Refs.{Ref, IsNode}
+use Rattle.model.specs.Tree.{Tree, Entry, child, prefix, count, one, fan, Ghost, Linked, TreeOk}
+use Rattle.model.specs.Refs.Ref.{leaf}
+use Rattle.model.specs.Tree.Status.{drawn}
+use Rattle.model_tree.specs.Graft.{In, Wrote, Fits, Grown, Graft}
 use Rattle.model_tree.specs.Writes.{Laws, Fork, Added, Removed}
 use Rattle.model.proofs.Bytes.{none_some, some_inj, ≼_app, ≼_trans, ≼_len, snoc_len}
 use Rattle.model.proofs.Reach.{key_one}
-use Rattle.model_tree.proofs.Graft.{all_in, linked_drawn, count_put, linked_after}
+use Rattle.model_tree.proofs.Graft.{linked_drawn, count_put, linked_after}
 
 pub leaf_inj : (i j : ℕ) → leaf i ≡ leaf j → i ≡ j
 leaf_inj i j e = cc e

@@ -1,15 +1,15 @@
 -- From what a walk saw to what a write needs.
-use Rattle.std.proofs.Common.{◌≡◌, ℕ, zero, suc, ◌+◌, ◌<◌, ◌≤◌, ◌⊎◌, List, [], ◌∷◌, ◌++◌, length, Some, None, Option, sym, refl, ap, ◌∙◌, subst, inl, inr, ⊎_elim, append_assoc, arith}
+use Rattle.std.proofs.Common.{◌≡◌, ℕ, zero, suc, ◌+◌, ◌<◌, ◌≤◌, ◌⊎◌, List, [], ◌∷◌, ◌++◌, Some, None, Option, sym, refl, ap, ◌∙◌, subst, inl, inr, append_assoc, arith}
 use native.Mathlib.Decide.{ℕ_discrete}
 use Rattle.model.specs.Bytes.{◌≼◌}
-use Rattle.model.specs.Refs.{Ref, root, room, Kind, IsNode}
-use Rattle.model.specs.Tree.{Tree, child, prefix, count, one, fan, cap, Ghost, Linked, TreeOk, Holds}
+use Rattle.model.specs.Refs.{Ref, root, Kind, IsNode}
+use Rattle.model.specs.Tree.{Tree, child, prefix, count, one, fan, cap, Ghost, Linked, TreeOk}
 use Rattle.model.specs.Refs.Ref.{leaf, node}
-use Rattle.model.specs.Tree.Status.{linked, spare, drawn, retired}
+use Rattle.model.specs.Tree.Status.{drawn}
 use Rattle.model_tree.specs.Writes.{Laws, Fresh, Fork, Insert, Split, Grow, Miss, InPlace, Collapse}
-use Rattle.model_tree.specs.Meets.{Meet, Stands, Lacks}
-use Rattle.model.proofs.Bytes.{none_some, some_inj, is_node_lem, ≼_app, ≼_trans, ≼_under}
-use Rattle.model_tree.proofs.Parts.{count_one, count_two}
+use Rattle.model_tree.specs.Meets.{Stands}
+use Rattle.model.proofs.Bytes.{none_some, is_node_lem, ≼_app, ≼_under}
+use Rattle.model_tree.proofs.Parts.{count_two}
 use Rattle.model_tree.proofs.Graft.{count_put}
 use Rattle.model_tree.proofs.Looks.{way_of, cut_again, joined_again}
 

@@ -1,14 +1,13 @@
 -- The writes of a removal keep the tree good, and take the key out.
-use Rattle.std.proofs.Common.{◌≡◌, ℕ, zero, suc, ◌+◌, ◌<◌, ◌≤◌, ◌⊎◌, List, [], ◌∷◌, ◌++◌, length, Some, None, Option, sym, refl, ap, ◌∙◌, subst, inl, inr, ⊎_elim, arith}
+use Rattle.std.proofs.Common.{◌≡◌, ℕ, ◌⊎◌, List, [], ◌∷◌, ◌++◌, length, Some, None, Option, sym, refl, ap, ◌∙◌, subst, inl, inr, ⊎_elim, arith}
 use native.Mathlib.Decide.{ℕ_discrete}
 use Rattle.model.specs.Bytes.{◌≼◌}
-use Rattle.model.specs.Refs.{Ref, root, IsNode}
-use Rattle.model.specs.Tree.{Tree, Entry, child, prefix, count, one, fan, cap, Ghost, Status, Linked, Retired, TreeOk, Holds}
+use Rattle.model.specs.Refs.{Ref, IsNode}
+use Rattle.model.specs.Tree.{Tree, child, prefix, one, Ghost, Linked, TreeOk}
 use Rattle.model.specs.Refs.Ref.{leaf, node}
-use Rattle.model.specs.Tree.Status.{linked, spare, drawn, retired}
-use Rattle.model_tree.specs.Graft.{In, All, KidOf, Wrote, Turned, Fits, Grown, Graft, Closed, UpTo}
+use Rattle.model_tree.specs.Graft.{In, KidOf, Wrote, Turned, Fits, Graft}
 use Rattle.model_tree.specs.Writes.{InPlace, Collapse, After, Removed}
-use Rattle.model.proofs.Bytes.{none_some, some_inj, is_node_lem, ≼_app, ≼_trans}
+use Rattle.model.proofs.Bytes.{none_some, some_inj, is_node_lem, ≼_trans}
 use Rattle.model.proofs.Reach.{past, parent_one}
 use Rattle.model_tree.proofs.Graft.{grafted, closed_after}
 use Rattle.model_tree.proofs.Turn.{Place, turn, turns, assign_same}

@@ -1,9 +1,9 @@
 -- A tree with nothing in it is good.
-use Rattle.std.proofs.Common.{◌≡◌, ℕ, zero, suc, ◌+◌, ◌<◌, ◌≤◌, ◌⊎◌, List, [], ◌∷◌, ◌++◌, length, Some, None, Option, sym, refl, ap, ◌∙◌, subst, inl, inr, ⊎_elim, arith}
+use Rattle.std.proofs.Common.{◌≡◌, ℕ, zero, suc, ◌<◌, List, [], ◌∷◌, None, Option, sym, refl, ap, ◌∙◌, subst, inl, ⊎_elim, arith}
 use Rattle.model.specs.Bytes.{◌≼◌}
 use Rattle.model.specs.Refs.{Ref, root, IsNode}
 use Rattle.model.specs.Tree.{Tree, child, prefix, count, fan, cap, Ghost, Status, Linked, Retired, TreeOk, Holds}
-use Rattle.model.specs.Refs.Ref.{leaf, node}
+use Rattle.model.specs.Refs.Ref.{leaf}
 use Rattle.model.specs.Tree.Status.{linked, spare, drawn, retired}
 use Rattle.model.proofs.Bytes.{none_some, pick}
 use Rattle.model_tree.proofs.Turn.{choose, choose_in, choose_out}

@@ -2,7 +2,7 @@
 use Rattle.std.proofs.Common.{◌≡◌, ℕ, true, List}
 use Rattle.model.specs.Refs.{Ref}
 use Rattle.model.specs.Tree.{prefix}
-use Rattle.model_tree.specs.Theorems.{Reads, Looks, Keeps, Mapped, MapsKeep, TreeKeeps}
+use Rattle.model_tree.specs.Theorems.{Keeps, MapsKeep, TreeKeeps}
 use Rattle.model.proofs.Reach.{linked_is_reached, under, compared, path_one, key_one, full_one, parent_one, branch, absent, present}
 use Rattle.model_tree.proofs.Graft.{grafted, closed_after, linked_after}
 use Rattle.model_tree.proofs.Adds.{insert_keeps, split_keeps, grow_keeps, miss_keeps}

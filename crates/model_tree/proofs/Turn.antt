@@ -1,9 +1,9 @@
 -- The ghost after an exchange, made from who comes, goes and moves.
-use Rattle.std.proofs.Common.{◌≡◌, ℕ, zero, suc, ◌+◌, ◌<◌, ◌≤◌, ◌⊎◌, List, [], ◌∷◌, ◌++◌, sym, refl, ap, ◌∙◌, subst, inl, inr, ⊎_elim, arith}
+use Rattle.std.proofs.Common.{◌≡◌, ℕ, ◌⊎◌, List, [], ◌∷◌, refl, ◌∙◌, inl, inr, ⊎_elim}
 use native.Mathlib.Decide.{ℕ_discrete}
 use Rattle.model.specs.Refs.{Ref, Ref-discrete, Kind-discrete}
-use Rattle.model.specs.Tree.{Ghost, Status, Linked}
-use Rattle.model.specs.Tree.Status.{linked, spare, drawn, retired}
+use Rattle.model.specs.Tree.{Ghost, Linked}
+use Rattle.model.specs.Tree.Status.{linked, drawn, retired}
 use Rattle.model_tree.specs.Graft.{In, All, Turned}
 use Rattle.model_tree.proofs.Graft.{all_in, linked_drawn}
 

@@ -1,15 +1,14 @@
 -- The rules can be met: from an empty tree, by a draw and an insert, to a tree with a key.
-use Rattle.std.proofs.Common.{◌≡◌, ℕ, zero, suc, ◌+◌, ◌<◌, ◌≤◌, ◌⊎◌, List, [], ◌∷◌, ◌++◌, length, Some, None, Option, sym, refl, ap, ◌∙◌, subst, inl, inr, ⊎_elim, arith}
+use Rattle.std.proofs.Common.{◌≡◌, ℕ, List, [], ◌∷◌, ◌++◌, Some, None, Option, sym, refl, ap, ◌∙◌, subst, inl, ⊎_elim, arith}
 use native.Mathlib.Decide.{ℕ_discrete}
-use Rattle.model.specs.Bytes.{◌≼◌}
-use Rattle.model.specs.Refs.{Ref, Ref-discrete, Kind-discrete, root, Kind, IsNode}
-use Rattle.model.specs.Tree.{Tree, Content, Entry, child, prefix, fan, cap, Ghost, Status, Linked, Retired, TreeOk, Holds}
+use Rattle.model.specs.Refs.{Ref, Ref-discrete, Kind-discrete, root, IsNode}
+use Rattle.model.specs.Tree.{Tree, child, prefix, Ghost, Status, TreeOk, Holds}
 use Rattle.model.specs.Refs.Ref.{leaf, node}
-use Rattle.model.specs.Tree.Status.{linked, spare, drawn, retired}
+use Rattle.model.specs.Tree.Status.{linked, drawn, retired}
 use Rattle.model_tree.specs.Graft.{Wrote}
-use Rattle.model_tree.specs.Writes.{Laws, Fresh, Aside}
+use Rattle.model_tree.specs.Writes.{Laws, Fresh}
 use Rattle.model_tree.specs.Meets.{Stands}
-use Rattle.model.proofs.Bytes.{pick, none_some}
+use Rattle.model.proofs.Bytes.{pick}
 use Rattle.model_tree.proofs.Turn.{choose, choose_in, choose_out}
 use Rattle.model_tree.proofs.Start.{first, starts, first_linked, first_retired}
 use Rattle.model_tree.proofs.Aside.{aside}

@@ -1,10 +1,10 @@
 -- One child of one node is exchanged: new ones come in, old ones go out, and some move.
-use Rattle.std.specs.Prelude.{◌≡◌, ℕ, ◌+◌, ◌<◌, ◌≤◌, ◌⊎◌, List, [], ◌∷◌, ◌++◌, length, Some, None, Option, ◌≢◌}
+use Rattle.std.specs.Prelude.{◌≡◌, ℕ, ◌<◌, ◌≤◌, ◌⊎◌, List, [], ◌∷◌, ◌++◌, length, Some, Option, ◌≢◌}
 use Rattle.model.specs.Bytes.{◌≼◌}
 use Rattle.model.specs.Refs.{Ref, root, IsNode}
-use Rattle.model.specs.Tree.{Tree, child, prefix, fan, cap, Ghost, Status, Linked, Retired, TreeOk}
-use Rattle.model.specs.Refs.Ref.{leaf, node}
-use Rattle.model.specs.Tree.Status.{linked, spare, drawn, retired}
+use Rattle.model.specs.Tree.{Tree, child, prefix, fan, cap, Ghost, Linked}
+use Rattle.model.specs.Refs.Ref.{leaf}
+use Rattle.model.specs.Tree.Status.{drawn, retired}
 
 abbrev pub In : Ref → List Ref → Type 0
 In x [] = ⊥

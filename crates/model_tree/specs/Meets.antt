@@ -1,9 +1,8 @@
 -- How the rest of a key meets a prefix, and what that says of the tree.
-use Rattle.std.specs.Prelude.{◌≡◌, ℕ, ◌+◌, ◌<◌, ◌≤◌, List, [], ◌∷◌, ◌++◌, length, Some, None, Option, ◌≢◌}
+use Rattle.std.specs.Prelude.{◌≡◌, ℕ, List, [], ◌∷◌, ◌++◌, ◌≢◌}
 use Rattle.model.specs.Bytes.{◌≼◌}
-use Rattle.model.specs.Refs.{Ref, root, IsNode}
-use Rattle.model.specs.Tree.{Tree, child, prefix, Ghost, Linked, TreeOk, Holds}
-use Rattle.model.specs.Refs.Ref.{leaf, node}
+use Rattle.model.specs.Refs.{Ref, IsNode}
+use Rattle.model.specs.Tree.{Tree, prefix, Ghost, Linked, Holds}
 
 -- the rest r goes on past p by the byte b; or the two differ after q, p by d and r by c; or r ends
 pub data Meet (p r : List ℕ) : Type 0 where

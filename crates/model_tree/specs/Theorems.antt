@@ -1,9 +1,9 @@
 -- What is proved of the tree.
-use Rattle.std.specs.Prelude.{◌≡◌, ℕ, ◌+◌, ◌<◌, ◌≤◌, Bool, true, ◌⊎◌, List, [], ◌∷◌, ◌++◌, length, Some, None, Option, ◌≢◌}
+use Rattle.std.specs.Prelude.{◌≡◌, ℕ, ◌+◌, ◌<◌, Bool, true, ◌⊎◌, List, [], ◌∷◌, ◌++◌, length, Some, None, Option, ◌≢◌}
 use Rattle.model.specs.Bytes.{◌≼◌}
 use Rattle.model.specs.Refs.{Ref, root, IsNode}
 use Rattle.model.specs.Tree.{Tree, child, prefix, Ghost, Linked, TreeOk, Holds, Reach}
-use Rattle.model.specs.Refs.Ref.{leaf, node}
+use Rattle.model.specs.Refs.Ref.{leaf}
 use Rattle.model_tree.specs.Graft.{Wrote, Graft, Closed, UpTo, In}
 use Rattle.model_tree.specs.Writes.{Laws, Insert, Split, Grow, Miss, InPlace, Collapse, After, Added, Removed, Moves, Means, Put, Aside}
 use Rattle.model_tree.specs.Meets.{Meet, Stands, Lacks}

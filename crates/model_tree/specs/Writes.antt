@@ -1,10 +1,10 @@
 -- The writes that link or unlink, what each needs, and what it leaves.
-use Rattle.std.specs.Prelude.{◌≡◌, ℕ, ◌+◌, ◌<◌, ◌≤◌, ◌⊎◌, List, [], ◌∷◌, ◌++◌, length, Some, None, Option, ◌≢◌}
+use Rattle.std.specs.Prelude.{◌≡◌, ℕ, ◌<◌, ◌≤◌, ◌⊎◌, List, [], ◌∷◌, ◌++◌, length, Some, None, Option, ◌≢◌}
 use Rattle.model.specs.Bytes.{◌≼◌}
 use Rattle.model.specs.Refs.{Ref, root, IsNode}
-use Rattle.model.specs.Tree.{Tree, child, prefix, fan, cap, Ghost, Status, Linked, Retired, TreeOk, Holds}
-use Rattle.model.specs.Refs.Ref.{leaf, node}
-use Rattle.model.specs.Tree.Status.{linked, spare, drawn, retired}
+use Rattle.model.specs.Tree.{Tree, child, prefix, fan, cap, Ghost, Linked, Retired, TreeOk, Holds}
+use Rattle.model.specs.Refs.Ref.{leaf}
+use Rattle.model.specs.Tree.Status.{drawn, retired}
 use Rattle.model_tree.specs.Graft.{Turned, Closed, UpTo}
 
 -- what is known of the bytes of accepted keys

@@ -1,12 +1,12 @@
 -- Each effect can happen where its conditions hold.
-use Rattle.std.proofs.Common.{◌≡◌, ℕ, ◌+◌, ◌-◌, ◌<◌, ◌≤◌, Bool, true, false, cond, ◌⊎◌, List, [], ◌∷◌, ◌++◌, Some, None, Option, sym, refl, ap, ◌∙◌, subst, inl, inr, ⊎_elim, append-nil, arith}
-use Rattle.model.specs.Holds.{Grip, Hold, put, let_go_all}
+use Rattle.std.proofs.Common.{◌≡◌, ℕ, ◌+◌, ◌<◌, Bool, true, false, cond, List, [], ◌∷◌, ◌++◌, Some, None, Option, sym, refl, ap, ◌∙◌, subst, append-nil, arith}
+use Rattle.model.specs.Holds.{Grip, Hold, let_go_all}
 use Rattle.model.specs.Refs.{Ref}
 use Rattle.latches.specs.declared.word.Meaning.{Meaning}
-use Rattle.model_words.specs.Words.{State, lock_of, grip_weight, sum, Unheld, WordsOk}
+use Rattle.model_words.specs.Words.{State, lock_of, grip_weight, Unheld, WordsOk}
 use Rattle.model.specs.Holds.Grip.{Permit, Locked}
 use Rattle.latches.specs.Rules.{shared, returned, held as shut, freed, freed_gone, raised, revived}
-use Rattle.model_words.specs.Effects.{spot, Turn, MayTake, MayLock, Does, Run, seat_put, act, Released}
+use Rattle.model_words.specs.Effects.{spot, Turn, MayTake, MayLock, Does, Run, seat_put, act}
 use Rattle.model_words.specs.Theorems.{start_state, Able}
 use Rattle.model_words.proofs.Owners.{sum_none, free}
 use Rattle.model_words.proofs.Release.{put_same, put_else, seat_same, seat_else}

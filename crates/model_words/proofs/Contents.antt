@@ -1,15 +1,13 @@
 -- An entry sound at the end means that nobody wrote.
-use Rattle.std.proofs.Common.{◌≡◌, ℕ, ◌+◌, ◌<◌, ◌≤◌, Bool, true, false, List, sym, refl, ap, ◌∙◌, subst, arith}
+use Rattle.std.proofs.Common.{◌≡◌, ℕ, ◌<◌, true, List, sym, refl, ◌∙◌, subst}
 use Rattle.model.specs.Holds.{Grip, Hold}
 use Rattle.model.specs.Refs.{Ref}
-use Rattle.latches.specs.declared.word.Meaning.{Meaning}
-use Rattle.model_words.specs.Words.{State, In, Sound, SoundIn, Unheld, WordsOk}
-use Rattle.model.specs.Holds.Grip.{Permit, Locked}
-use Rattle.model_words.specs.Effects.{Does, Run, Later}
+use Rattle.model_words.specs.Words.{State, In, Sound, SoundIn, WordsOk}
+use Rattle.model.specs.Holds.Grip.{Locked}
+use Rattle.model_words.specs.Effects.{Run}
 use Rattle.model_words.specs.Effects.Run.{stop, more}
 use Rattle.model_words.specs.Contents.{Course}
 use Rattle.model_words.specs.Theorems.{Still}
-use Rattle.model_words.proofs.Sums.{pick}
 use Rattle.model_words.proofs.Owners.{owner, owner_one}
 use Rattle.model_words.proofs.Rely.{true_false, keeps_run, rely_effect, rely_run, every_in}
 

@@ -1,12 +1,12 @@
 -- A permit with weight keeps locks away, so it never fails.
-use Rattle.std.proofs.Common.{◌≡◌, ℕ, ◌+◌, ◌-◌, ◌<◌, ◌≤◌, Bool, true, false, ◌⊎◌, List, [], ◌∷◌, ◌++◌, Some, None, Option, sym, refl, ap, ◌∙◌, subst, inl, inr, ⊎_elim, arith}
+use Rattle.std.proofs.Common.{◌≡◌, ℕ, ◌≤◌, ◌⊎◌, List, [], ◌∷◌, ◌++◌, Some, None, Option, sym, ap, ◌∙◌, subst, inl, inr, ⊎_elim, arith}
 use native.Mathlib.Decide.{ℕ_discrete}
 use Rattle.model.specs.Holds.{Grip, Hold}
 use Rattle.model.specs.Refs.{Ref}
 use Rattle.latches.specs.declared.word.Meaning.{Meaning}
 use Rattle.model_words.specs.Words.{State, bit, lock_of, grip_weight, In, Sound, WordsOk, HeavySound}
 use Rattle.model.specs.Holds.Grip.{Permit, Locked}
-use Rattle.latches.specs.Rules.{shared, returned, held as shut, freed, freed_gone, raised, revived}
+use Rattle.latches.specs.Rules.{shared, returned, held as shut, freed, freed_gone, raised}
 use Rattle.model_words.specs.Effects.{spot, Turn, Does, Run}
 use Rattle.model_words.specs.Effects.Does.{take, give, lock, unlock, unlock_gone, revive, pass}
 use Rattle.model_words.specs.Effects.Run.{stop, more}

@@ -1,13 +1,12 @@
 -- Each effect keeps the words and the lists in agreement.
-use Rattle.std.proofs.Common.{◌≡◌, ℕ, zero, suc, ◌+◌, ◌-◌, ◌<◌, ◌≤◌, Bool, true, false, cond, ◌⊎◌, List, [], ◌∷◌, ◌++◌, Some, None, Option, sym, refl, ap, ◌∙◌, subst, inl, inr, ⊎_elim, arith}
+use Rattle.std.proofs.Common.{◌≡◌, ℕ, ◌+◌, ◌<◌, ◌≤◌, Bool, true, false, cond, ◌⊎◌, List, [], ◌∷◌, ◌++◌, Some, None, Option, sym, refl, ap, ◌∙◌, subst, inl, inr, ⊎_elim, arith}
 use native.Mathlib.Decide.{ℕ_discrete}
 use Rattle.model.specs.Holds.{Grip, Hold}
-use Rattle.model.specs.Refs.{Ref, same}
+use Rattle.model.specs.Refs.{Ref}
 use Rattle.latches.specs.declared.word.Meaning.{Meaning}
-use Rattle.model_words.specs.Words.{State, bit, lock_of, grip_weight, sum, Every, Old, OldIn, Sound, SoundIn, WordsOk}
-use Rattle.model.specs.Holds.Grip.{Permit, Locked}
+use Rattle.model_words.specs.Words.{State, bit, lock_of, grip_weight, sum, Every, Old, OldIn, WordsOk}
 use Rattle.latches.specs.Rules.{shared, returned, held as shut, freed, freed_gone, raised, revived}
-use Rattle.model_words.specs.Effects.{spot, Turn, MayTake, MayLock, Does, Later}
+use Rattle.model_words.specs.Effects.{spot, Turn, Does}
 use Rattle.model_words.specs.Effects.Does.{take, give, lock, unlock, unlock_gone, revive, pass}
 use Rattle.model_words.proofs.Sums.{pick, of, sum_there, sum_else}
 

@@ -1,9 +1,8 @@
 -- Who holds what: locked words have one owner, and what nobody holds is free.
-use Rattle.std.proofs.Common.{◌≡◌, ℕ, zero, suc, ◌+◌, ◌<◌, ◌≤◌, Bool, true, false, ◌⊎◌, List, [], ◌∷◌, ◌++◌, sym, refl, ap, ◌∙◌, subst, inl, inr, ⊎_elim, arith}
+use Rattle.std.proofs.Common.{◌≡◌, ℕ, zero, suc, ◌+◌, ◌<◌, ◌≤◌, true, false, List, [], ◌∷◌, sym, refl, ap, subst, inl, inr, arith}
 use native.Mathlib.Decide.{ℕ_discrete}
 use Rattle.model.specs.Holds.{Grip, Hold}
 use Rattle.model.specs.Refs.{Ref, same}
-use Rattle.latches.specs.declared.word.Meaning.{Meaning}
 use Rattle.model_words.specs.Words.{State, only, bit, lock_of, grip_weight, tally, total, sum, Every, In, Unheld, WordsOk}
 use Rattle.model.specs.Holds.Grip.{Permit, Locked}
 use Rattle.model_words.proofs.Sums.{pick, only_no, tally_none, tally_in, total_zero, total_one, total_two}

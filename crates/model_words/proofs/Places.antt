@@ -1,16 +1,16 @@
 -- Which words are gone, effect by effect.
-use Rattle.std.proofs.Common.{◌≡◌, ℕ, ◌+◌, ◌-◌, ◌<◌, ◌≤◌, Bool, true, false, ◌⊎◌, List, [], ◌∷◌, ◌++◌, sym, refl, ap, ◌∙◌, subst, inl, inr, ⊎_elim, arith}
+use Rattle.std.proofs.Common.{◌≡◌, ℕ, true, List, [], ◌∷◌, sym, refl, ap, ◌∙◌, subst, inl, inr, ⊎_elim}
 use Rattle.model.specs.Holds.{Grip, Hold, put, let_go, let_go_all}
-use Rattle.model.specs.Refs.{Ref, same}
+use Rattle.model.specs.Refs.{Ref}
 use Rattle.latches.specs.declared.word.Meaning.{Meaning}
-use Rattle.model_words.specs.Words.{State, Every}
-use Rattle.model.specs.Holds.Grip.{Permit, Locked}
-use Rattle.latches.specs.Rules.{shared, returned, held as shut, freed, freed_gone, raised, revived}
-use Rattle.model_words.specs.Effects.{Turn, Does, Released}
+use Rattle.model_words.specs.Words.{State}
+use Rattle.model.specs.Holds.Grip.{Locked}
+use Rattle.latches.specs.Rules.{shared, returned, held as shut, freed}
+use Rattle.model_words.specs.Effects.{Does, Released}
 use Rattle.model_words.specs.Effects.Does.{take, give, lock, unlock, unlock_gone, revive, pass}
-use Rattle.model_words.specs.Places.{Place, Barred, Suits, PlacesOk, Proper, NoneRetired}
+use Rattle.model_words.specs.Places.{Place, Suits, PlacesOk, Proper, NoneRetired}
 use Rattle.model_words.proofs.Sums.{pick}
-use Rattle.model_words.proofs.Rely.{true_false, turn_of}
+use Rattle.model_words.proofs.Rely.{turn_of}
 use Rattle.model_words.proofs.Release.{put_same, put_else}
 
 -- a change that keeps both marks

@@ -1,8 +1,5 @@
 -- From the start on, call by call.
-use Rattle.std.proofs.Common.{◌≡◌, ℕ, ◌+◌, ◌<◌, ◌≤◌, false, List, [], sym, refl, ◌∙◌, subst, arith}
-use Rattle.model.specs.Holds.{Hold}
-use Rattle.model.specs.Refs.{Ref}
-use Rattle.latches.specs.declared.word.Meaning.{Meaning}
+use Rattle.std.proofs.Common.{◌≡◌, ℕ, ◌+◌, sym, refl, subst, arith}
 use Rattle.model_words.specs.Words.{State, Every, HeavySound, WordsOk}
 use Rattle.model_words.specs.Theorems.{start_state, Calls, Reached}
 use Rattle.model_words.proofs.Owners.{free}

@@ -1,8 +1,8 @@
 -- A release is a run of its seat.
-use Rattle.std.proofs.Common.{◌≡◌, ℕ, zero, suc, ◌+◌, ◌-◌, ◌<◌, ◌≤◌, List, [], ◌∷◌, ◌++◌, Some, None, Option, sym, refl, ap, ◌∙◌, subst, arith}
+use Rattle.std.proofs.Common.{◌≡◌, ℕ, ◌<◌, ◌≤◌, List, [], ◌∷◌, Some, None, sym, refl, ◌∙◌, subst, arith}
 use native.Mathlib.Decide.{ℕ_discrete}
 use Rattle.model.specs.Holds.{Grip, Hold, put, let_go, let_go_all}
-use Rattle.model.specs.Refs.{Kind, Ref, same}
+use Rattle.model.specs.Refs.{Ref, same}
 use Rattle.latches.specs.declared.word.Meaning.{Meaning}
 use Rattle.model_words.specs.Words.{State, Every, Unheld, WordsOk}
 use Rattle.model.specs.Holds.Grip.{Permit, Locked}

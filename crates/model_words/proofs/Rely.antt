@@ -1,16 +1,16 @@
 -- A refused permit stays refused, and what a seat may rely on while others act.
-use Rattle.std.proofs.Common.{◌≡◌, ℕ, zero, suc, ◌+◌, ◌-◌, ◌<◌, ◌≤◌, Bool, true, false, ◌⊎◌, List, [], ◌∷◌, ◌++◌, Some, None, Option, sym, refl, ap, ◌∙◌, subst, inl, inr, ⊎_elim, arith}
+use Rattle.std.proofs.Common.{◌≡◌, ℕ, ◌+◌, ◌<◌, Bool, true, false, List, [], ◌∷◌, ◌++◌, Some, None, Option, sym, refl, ap, ◌∙◌, subst, inl, inr, ⊎_elim, arith}
 use Rattle.model.specs.Holds.{Grip, Hold}
 use Rattle.model.specs.Refs.{Ref}
 use Rattle.latches.specs.declared.word.Meaning.{Meaning}
-use Rattle.model_words.specs.Words.{State, bit, lock_of, Every, In, Old, OldIn, Sound, SoundIn, WordsOk}
+use Rattle.model_words.specs.Words.{State, bit, Every, In, Old, OldIn, Sound, WordsOk}
 use Rattle.model.specs.Holds.Grip.{Permit, Locked}
-use Rattle.latches.specs.Rules.{shared, returned, held as shut, freed, freed_gone, raised, revived}
-use Rattle.model_words.specs.Effects.{spot, Turn, Does, Run, Later, Rely}
+use Rattle.latches.specs.Rules.{shared, returned, held as shut, freed, freed_gone, raised}
+use Rattle.model_words.specs.Effects.{Turn, Does, Run, Later, Rely}
 use Rattle.model_words.specs.Effects.Does.{take, give, lock, unlock, unlock_gone, revive, pass}
 use Rattle.model_words.specs.Effects.Run.{stop, more}
 use Rattle.model_words.proofs.Sums.{pick}
-use Rattle.model_words.proofs.Keep.{keeps, revived_cases, bit_le}
+use Rattle.model_words.proofs.Keep.{keeps, revived_cases}
 use Rattle.model_words.proofs.Owners.{owner, owner_one}
 
 pub true_false : (b : Bool) → b ≡ true → b ≡ false → ⊥

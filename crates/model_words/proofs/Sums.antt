@@ -1,9 +1,8 @@
 -- Sums over lists of entries and over seats.
-use Rattle.std.proofs.Common.{◌≡◌, ℕ, zero, suc, ◌+◌, ◌-◌, ◌<◌, ◌≤◌, Bool, true, false, cond, ◌⊎◌, List, [], ◌∷◌, ◌++◌, Some, None, Option, sym, refl, ap, ◌∙◌, subst, inl, inr, ⊎_elim, arith}
+use Rattle.std.proofs.Common.{◌≡◌, ℕ, zero, suc, ◌+◌, ◌<◌, ◌≤◌, List, [], ◌∷◌, ◌++◌, Some, None, Option, sym, refl, ap, inl, inr, arith}
 use native.Mathlib.Decide.{ℕ_discrete}
 use Rattle.model.specs.Holds.{Grip, Hold}
 use Rattle.model.specs.Refs.{Ref, same}
-use Rattle.latches.specs.declared.word.Meaning.{Meaning}
 use Rattle.model_words.specs.Words.{State, only, tally, total, sum, Every, In}
 use Rattle.model_words.specs.Effects.{spot, Turn}
 

@@ -1,5 +1,5 @@
 -- All of it together.
-use Rattle.std.proofs.Common.{◌≡◌, ℕ}
+use Rattle.std.proofs.Common.{ℕ}
 use Rattle.model_words.specs.Theorems.{Keeps, WordsKeep}
 use Rattle.model_words.proofs.Keep.{keeps, old_rises}
 use Rattle.model_words.proofs.Owners.{owner, owner_one, owned, free, alone}

@@ -1,6 +1,6 @@
 -- What nodes hold: written under a lock, or filled in where nobody holds the node.
 use Rattle.std.specs.Prelude.{◌≡◌, ℕ, ◌<◌, ◌≢◌}
-use Rattle.model.specs.Holds.{Grip, Hold}
+use Rattle.model.specs.Holds.{Hold}
 use Rattle.model.specs.Refs.{Ref}
 use Rattle.model_words.specs.Words.{State, In, Unheld}
 use Rattle.model.specs.Holds.Grip.{Locked}

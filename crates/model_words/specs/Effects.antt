@@ -1,10 +1,10 @@
 -- What the calls of a latch do to one word and to the list of one seat.
-use Rattle.std.specs.Prelude.{◌≡◌, ℕ, ◌+◌, ◌-◌, ◌<◌, ◌≤◌, Bool, true, false, cond, List, [], ◌∷◌, ◌++◌, Some, None, Option, ◌≢◌}
+use Rattle.std.specs.Prelude.{◌≡◌, ℕ, ◌<◌, ◌≤◌, true, false, List, [], ◌∷◌, ◌++◌, Some, None, Option, ◌≢◌}
 use Rattle.std.proofs.Math.Decide.{ℕ_discrete}
 use Rattle.model.specs.Holds.{Grip, Hold, put, let_go_all}
-use Rattle.model.specs.Refs.{Ref, same}
+use Rattle.model.specs.Refs.{Ref}
 use Rattle.latches.specs.declared.word.Meaning.{Meaning}
-use Rattle.latches.specs.Rules.{shared, returned, held as shut, freed, freed_gone, raised, revived}
+use Rattle.latches.specs.Rules.{shared, returned, held as shut, freed, freed_gone, revived}
 use Rattle.model_words.specs.Words.{State, Sound, SoundIn, In}
 use Rattle.model.specs.Holds.Grip.{Permit, Locked}
 

@@ -1,10 +1,10 @@
 -- Where a node stands, and which words are gone.
-use Rattle.std.specs.Prelude.{◌≡◌, ℕ, ◌+◌, ◌<◌, ◌≤◌, Bool, true, false, ◌⊎◌, List, [], ◌∷◌, ◌++◌, ◌≢◌}
-use Rattle.model.specs.Holds.{Grip, Hold}
+use Rattle.std.specs.Prelude.{◌≡◌, ℕ, true, false, ◌⊎◌, List, ◌≢◌}
+use Rattle.model.specs.Holds.{Hold}
 use Rattle.model.specs.Refs.{Ref}
 use Rattle.latches.specs.declared.word.Meaning.{Meaning}
 use Rattle.model_words.specs.Words.{State, Every}
-use Rattle.model.specs.Holds.Grip.{Permit, Locked}
+use Rattle.model.specs.Holds.Grip.{Locked}
 use Rattle.model_words.specs.Effects.{Does}
 use Rattle.model_words.specs.Effects.Does.{take, give, lock, unlock, unlock_gone, revive, pass}
 

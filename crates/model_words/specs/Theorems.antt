@@ -1,6 +1,6 @@
 -- What is proved of the words.
 use Rattle.std.specs.Prelude.{◌≡◌, ℕ, ◌+◌, ◌<◌, ◌≤◌, true, false, List, [], ◌∷◌, ◌++◌, ◌≢◌}
-use Rattle.model.specs.Holds.{Grip, Hold}
+use Rattle.model.specs.Holds.{Hold}
 use Rattle.model.specs.Refs.{Ref}
 use Rattle.latches.specs.declared.word.Meaning.{Meaning}
 use Rattle.model_words.specs.Words.{State, WordsOk, In, Unheld, OldIn, SoundIn, HeavySound}

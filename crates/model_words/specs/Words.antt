@@ -1,6 +1,5 @@
 -- The latch words, what the seats hold, and how the two agree at every time.
-use Rattle.std.specs.Prelude.{◌≡◌, ℕ, zero, suc, ◌+◌, ◌-◌, ◌<◌, ◌≤◌, Bool, true, false, cond, ◌⊎◌, List, [], ◌∷◌, ◌++◌, Some, None, Option, ◌≢◌}
-use Rattle.std.proofs.Math.Decide.{ℕ_discrete}
+use Rattle.std.specs.Prelude.{◌≡◌, ℕ, zero, suc, ◌+◌, ◌<◌, ◌≤◌, Bool, true, false, ◌⊎◌, List, [], ◌∷◌, ◌≢◌}
 use Rattle.model.specs.Refs.{Ref, same}
 use Rattle.model.specs.Holds.{Grip, Hold}
 use Rattle.latches.specs.declared.word.Meaning.{Meaning}

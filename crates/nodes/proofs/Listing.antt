@@ -1,9 +1,9 @@
-use Rattle.std.proofs.Common.{◌≡◌, ℕ, zero, suc, ◌+◌, ◌-◌, ◌<◌, ◌≤◌, Bool, true, false, cond, eqb, ◌⊎◌, List, get_or, Some, None, Option, sym, refl, ap, ◌∙◌, subst, inl, inr, ⊎_elim, arith}
-use Rattle.std.proofs.lemmas.Bool.{eq-eqb, ne_eqb, cases_eq, cases_order, cond-true, cond-false, cases_lt}
+use Rattle.std.proofs.Common.{◌≡◌, ℕ, zero, suc, ◌+◌, ◌<◌, ◌≤◌, eqb, ◌⊎◌, List, get_or, Some, None, sym, refl, ap, ◌∙◌, inl, inr, ⊎_elim, arith}
+use Rattle.std.proofs.lemmas.Bool.{eq-eqb, ne_eqb, cases_eq, cond-true, cond-false, cases_lt}
 use Rattle.nodes.specs.declared.child.Child.{Child}
-use Rattle.nodes.specs.View.{View, Changed, Taken, one, count_to}
+use Rattle.nodes.specs.View.{Taken, one, count_to}
 use Rattle.nodes.specs.Listed.{listed, Rising, no_child}
-use Rattle.nodes.proofs.Views.{changed_from, none_taken}
+use Rattle.nodes.proofs.Views.{none_taken}
 
 -- a byte that none of the first n is
 abbrev pub Absent : ℕ → List ℕ → ℕ → Type 0

@@ -1,10 +1,10 @@
-use Rattle.std.proofs.Common.{◌≡◌, ℕ, zero, suc, ◌+◌, ◌-◌, ◌<◌, ◌≤◌, ◌≢◌, ◌⊎◌, List, length, get_or, set, Some, None, Option, sym, refl, ap, ◌∙◌, subst, inl, inr, ⊎_elim, arith, get_or-set_other, get_or-set_same}
+use Rattle.std.proofs.Common.{◌≡◌, ℕ, ◌+◌, ◌-◌, ◌<◌, ◌≤◌, ◌≢◌, List, length, get_or, set, Some, None, sym, ap, ◌∙◌, ⊎_elim, arith, get_or-set_other, get_or-set_same}
 use Rattle.std.proofs.lemmas.Bool.{cases_eq, cases_order, cases_lt}
 use Rattle.nodes.specs.declared.child.Child.{Child}
-use Rattle.nodes.specs.View.{View, Changed, Taken}
+use Rattle.nodes.specs.View.{Changed}
 use Rattle.nodes.specs.Listed.{listed, Rising, no_child}
 use Rattle.nodes.proofs.Views.{changed_from}
-use Rattle.nodes.proofs.Listing.{Absent, listed_hit, listed_miss, placed}
+use Rattle.nodes.proofs.Listing.{listed_hit, listed_miss, placed}
 
 -- the first n of xs with x put in at p
 pub record Opened {A : Type 0} (d : A) (n p : ℕ) (xs ys : List A) (x : A) : Type 0 where

@@ -1,7 +1,7 @@
-use Rattle.std.proofs.Common.{◌≡◌, ℕ, zero, suc, ◌+◌, ◌-◌, ◌<◌, ◌≤◌, ◌⊎◌, List, [], ◌∷◌, ◌++◌, length, get_or, take, drop, set, Some, None, sym, refl, ap, ◌∙◌, subst, inl, inr, append_assoc, add-one, arith}
+use Rattle.std.proofs.Common.{◌≡◌, ℕ, suc, ◌+◌, ◌-◌, ◌<◌, ◌≤◌, List, [], ◌∷◌, ◌++◌, length, get_or, take, drop, set, sym, ap, ◌∙◌, append_assoc, arith}
 use lib.Seq.{take-set-lt}
 use Rattle.std.proofs.lemmas.List.{append-nil, length-append, length-take, length-drop, drop-set-add, take-set-le, set-append_left, set-append_right, drop-set-lt, take_more_set, take_more, drop_more, take-append-le, drop_all, take_all, length-take-le}
-use Rattle.pools.specs.Contents.{around, contents, Fits, first, rest}
+use Rattle.pools.specs.Contents.{around, contents, Fits}
 use Rattle.pools.specs.declared.queue.Queue.{Queue}
 
 pub length_around : {A : Type 0} (h : ℕ) (xs : List A) → h ≤ length xs → length (around h xs) ≡ length xs

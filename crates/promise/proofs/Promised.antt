@@ -1,14 +1,10 @@
 -- The whole promise, from its parts.
-use Rattle.std.proofs.Common.{◌≡◌, ℕ, zero, suc, ◌+◌, ◌*◌, ◌<◌, ◌≤◌, List, [], ◌∷◌, ◌++◌, length, sym, refl, ap, ◌∙◌, subst, arith}
-use Rattle.keys.specs.Bytes.{Begins}
+use Rattle.std.proofs.Common.{ℕ, ◌+◌, ◌*◌, ◌≤◌, List}
 use Rattle.keys.specs.Laws as coding
-use Rattle.model.specs.Bytes.{◌≼◌}
-use Rattle.model_tree.specs.Writes.{Laws}
 use Rattle.machine.specs.State.{State, Numbers}
 use Rattle.runs.specs.Runs.{Run}
 use Rattle.invariant.specs.Invariant.{Lawful}
 use Rattle.invariant.proofs.Runs.{KeyOf}
-use Rattle.promise.specs.Answers.{Answered}
 use Rattle.promise.specs.Promise.{Kept, Promise}
 use Rattle.promise.specs.Waiting.{step_bound}
 use Rattle.promise.proofs.Names.{names_ok, names_stay}

@@ -1,10 +1,10 @@
 -- The answers of a run, explained by the ordered map at the named steps.
-use Rattle.std.specs.Prelude.{◌≡◌, ℕ, suc, ◌≤◌, List, [], ◌∷◌, ◌++◌, length, Some, None, Option}
+use Rattle.std.specs.Prelude.{◌≡◌, ℕ, suc, ◌≤◌, List, ◌∷◌, ◌++◌, length, Some, None}
 use Rattle.model.specs.Operations.{Task, Answer, Outcome, answers}
 use Rattle.machine.specs.State.{State, Numbers}
-use Rattle.machine.specs.Calls.{Call, Reply, came, Did}
+use Rattle.machine.specs.Calls.{Call, came}
 use Rattle.runs.specs.Runs.{Event, Run, history}
-use Rattle.runs.specs.Told.{Told, asked, told}
+use Rattle.runs.specs.Told.{asked, told}
 use Rattle.promise.specs.Map.{Map, Empty, Fed}
 use Rattle.runs.specs.Named.{Feed, named}
 

@@ -2,10 +2,9 @@
 use Rattle.std.specs.Prelude.{◌≡◌, ℕ, suc, ◌+◌, ◌<◌, ◌≤◌, List, ◌≢◌}
 use Rattle.terms.specs.Limits.{call_limit}
 use Rattle.terms.specs.declared.Refusal.{Refusal}
-use Rattle.model.specs.Operations.{Operation, Seat, busy, Outcome, Answer, answers}
+use Rattle.model.specs.Operations.{Operation, busy, Outcome, Answer, answers}
 use Rattle.machine.specs.State.{State, Numbers}
-use Rattle.machine.specs.Calls.{Call, Reply, came, refused, Did}
-use Rattle.runs.specs.Runs.{Run}
+use Rattle.machine.specs.Calls.{Call, came, refused, Did}
 
 -- an operation alone is answered within so many steps
 abbrev pub step_bound : ℕ

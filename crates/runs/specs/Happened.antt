@@ -1,5 +1,5 @@
 -- What happens to slots in a run: which are drawn, given back, linked and unlinked, by whom.
-use Rattle.std.specs.Prelude.{◌≡◌, ℕ, suc, ◌+◌, Bool, true, false, cond, List, [], ◌∷◌, ◌++◌, Option, nat_le, nat_lt}
+use Rattle.std.specs.Prelude.{ℕ, ◌+◌, Bool, List, [], ◌∷◌, ◌++◌, Option, nat_le, nat_lt}
 use Rattle.latches.specs.declared.word.Meaning.{Meaning}
 use Rattle.model.specs.Refs.{Ref, leaf, node, pool, room}
 use Rattle.model.specs.Holds.{Hold}

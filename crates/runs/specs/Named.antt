@@ -1,5 +1,5 @@
 -- Which step of an operation is named.
-use Rattle.std.specs.Prelude.{◌≡◌, ℕ, zero, suc, Bool, true, false, cond, List, [], ◌∷◌, length, Some, None, Option, ◌==◌}
+use Rattle.std.specs.Prelude.{ℕ, zero, suc, Bool, true, false, cond, List, length, Some, None, Option, ◌==◌}
 use Rattle.latches.specs.declared.word.Meaning.{Meaning}
 use Rattle.model.specs.Refs.{Ref}
 use Rattle.model.specs.Holds.{Hold}
@@ -9,7 +9,7 @@ use Rattle.machine.specs.State.{State, Numbers}
 use Rattle.machine.specs.Items.{Does}
 use Rattle.machine.specs.Steps.{Row}
 use Rattle.machine.specs.Calls.{Call, Reply, Did}
-use Rattle.runs.specs.Runs.{Event, Run, history}
+use Rattle.runs.specs.Runs.{Run, history}
 use Rattle.runs.specs.Told.{Told, shut, free, asked, told}
 
 -- an operation, by how many calls came before its begin, with what it was asked and what it answers

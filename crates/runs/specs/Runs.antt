@@ -1,9 +1,9 @@
 -- Runs from a just made index, and what is told by their history.
-use Rattle.std.specs.Prelude.{◌≡◌, ℕ, zero, suc, cond, List, [], ◌∷◌, Some, None, Option, ◌≢◌}
+use Rattle.std.specs.Prelude.{◌≡◌, ℕ, zero, suc, List, [], ◌∷◌, None, ◌≢◌}
 use Rattle.latches.specs.Rules.{fresh}
 use Rattle.model.specs.Refs.{Kind, four, sixteen, forty_eight, whole, room, Ref, leaf, node, root, pool}
 use Rattle.model.specs.Tree.{child, prefix}
-use Rattle.model.specs.Operations.{Seat, closed}
+use Rattle.model.specs.Operations.{closed}
 use Rattle.machine.specs.State.{State, Numbers, WordsAre}
 use Rattle.machine.specs.Calls.{Call, Reply, Did}
 

@@ -1,23 +1,12 @@
 -- The laws, from their parts.
-use Rattle.std.proofs.Common.{◌≡◌, ℕ, zero, suc, ◌+◌, ◌<◌, ◌≤◌, Bool, true, false, T, ◌⊎◌, List, [], ◌∷◌, ◌++◌, length, get_or, Some, None, Option, sym, refl, ap, ◌∙◌, subst, ap₂, inl, inr, ⊎_elim, arith}
+use Rattle.std.proofs.Common.{◌≡◌, ℕ, zero, suc, ◌<◌, Bool, true, false, T, ◌⊎◌, List, [], ◌∷◌, ◌++◌, length, get_or, sym, refl, ap, ◌∙◌, subst, inl, inr, ⊎_elim, arith}
 use Rattle.std.proofs.lemmas.Bool.{cases_eq}
 use Rattle.std.specs.List.{AllByRecursion as All}
-use Rattle.model.specs.Bytes.{◌≼◌}
 use Rattle.model.specs.Holds.{Hold}
-use Rattle.model.specs.Refs.{Ref, IsNode}
-use Rattle.model.specs.Tree.{Tree, child, Ghost, Linked, TreeOk, Holds}
-use Rattle.model.specs.Refs.Ref.{leaf, node}
-use Rattle.keys.specs.Bytes.{First}
 use Rattle.walks.specs.Look.{taken}
-use Rattle.model_next.specs.Next.{FirstFrom, NextOf, pair_of}
-use Rattle.walks.specs.Next.{Trail, SoundNow}
-use Rattle.walks.specs.Walk.{Walk, on, scan, place, Seen}
-use Rattle.model_next.specs.Laws.{OrderLaws, TreeLaws, OneAnswer, Best, Good}
+use Rattle.walks.specs.Walk.{place}
 use Rattle.walks.specs.Laws.{Bad, WalkLaws, FreshLaws}
-use Rattle.model.proofs.Bytes.{snoc_byte}
-use Rattle.model.proofs.Reach
-use Rattle.model_next.proofs.Order.{first_not, first_trans, first_total, comes_first, first_comes, fork, larger_first, smaller_first, same_begins}
-use Rattle.walks.proofs.Snapshot.{snapshot, leaf_best, min, fresh_look, fresh_look_back, fresh_look_down}
+use Rattle.walks.proofs.Snapshot.{snapshot, fresh_look, fresh_look_back, fresh_look_down}
 use Rattle.walks.proofs.Walks.{kept, stable, trail}
 
 -- each is sound, or some one is not

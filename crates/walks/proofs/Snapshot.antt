@@ -1,5 +1,5 @@
 -- With every permit sound at one time, what `next` has in hand is the first pair not below its key.
-use Rattle.std.proofs.Common.{◌≡◌, ℕ, zero, suc, ◌+◌, ◌-◌, ◌<◌, ◌≤◌, Bool, true, false, cond, T, leb, ◌⊎◌, List, [], ◌∷◌, ◌++◌, length, get_or, drop, Some, None, Option, sym, refl, ap, ◌∙◌, subst, inl, inr, ⊎_elim, arith, length-append}
+use Rattle.std.proofs.Common.{◌≡◌, ℕ, zero, suc, ◌+◌, ◌-◌, ◌<◌, ◌≤◌, Bool, false, cond, T, leb, List, [], ◌∷◌, ◌++◌, length, get_or, drop, Some, None, Option, sym, refl, ap, ◌∙◌, subst, inl, ⊎_elim, arith, length-append}
 use Rattle.std.proofs.lemmas.Bool.{cases_order, lt-leb}
 use Rattle.std.specs.List.{AllByRecursion as All}
 use Rattle.model.specs.Bytes.{◌≼◌}
@@ -11,14 +11,14 @@ use Rattle.keys.specs.Bytes.{First}
 use Rattle.model_next.specs.Bytes.{Compared, larger, smaller, ended, same, against}
 use Rattle.model_next.specs.Look.{Sight, stale, back, onward, aside, got, smallest, past, picks, picked, keyed, key_sight, back_sight, down_sight}
 use Rattle.walks.specs.Look.{taken, Saw, SawDown, Led}
-use Rattle.model_next.specs.Next.{FirstFrom, NextOf, pair_of, Past}
+use Rattle.model_next.specs.Next.{NextOf, pair_of, Past}
 use Rattle.walks.specs.Next.{Trail, SoundNow, Snapshot}
 use Rattle.walks.specs.Walk.{take_key, take_down, look_key, look_back, look_down, on, hold, newest, place, AtRoot, Links, DownLinks, Seen}
 use Rattle.model_next.specs.Laws.{Best}
-use Rattle.model.proofs.Bytes.{none_some, some_inj, is_node_lem, ≼_refl, ≼_app, ≼_trans, ≼_or, snoc_len}
+use Rattle.model.proofs.Bytes.{none_some, ≼_app, ≼_trans, ≼_or, snoc_len}
 use Rattle.model.proofs.Reach
 use Rattle.model_next.proofs.Order.{first_not, first_asym, first_behind, begins_drop, drop_begins, fork, byte_at, larger_first, smaller_first, same_begins, ended_begins, begins_behind, nil_not_larger}
-use Rattle.model_next.proofs.Views.{Least, smallest_some, past_some, past_none, picks_got, picks_aside, down_view, back_view, Unfit, KeyView, key_view, picks_not, picked_not, picks_depth, back_fresh, smallest_fresh, under_fresh, has_smallest}
+use Rattle.model_next.proofs.Views.{smallest_some, past_some, past_none, picks_got, picks_aside, down_view, back_view, Unfit, KeyView, key_view, picks_not, picked_not, picks_depth, back_fresh, smallest_fresh, under_fresh, has_smallest}
 
 -- the smallest of them that is not below k
 pub record Fit (S : Tree) (G : Ghost) (k u : List ℕ) (i : ℕ) : Type 0 where

@@ -1,11 +1,8 @@
 -- The statements that the crate stands for.
-use Rattle.std.specs.Prelude.{◌≡◌, ℕ, zero, suc, ◌<◌, ◌≤◌, Bool, true, false, T, ◌⊎◌, List, [], ◌∷◌, ◌++◌, length, Some, None, Option, ◌≢◌, slice_index_or}
-use Rattle.model.specs.Bytes.{◌≼◌}
+use Rattle.std.specs.Prelude.{◌≡◌, ℕ, suc, ◌<◌, ◌≤◌, Bool, false, T, ◌⊎◌, List, [], ◌∷◌, ◌++◌, length, Option, ◌≢◌, slice_index_or}
 use Rattle.model.specs.Holds.{Hold}
-use Rattle.model.specs.Refs.{Ref, leaf, IsNode}
-use Rattle.model.specs.Tree.{Tree, child, Ghost, Linked, TreeOk, Holds}
-use Rattle.keys.specs.Bytes.{First}
-use Rattle.model_next.specs.Bytes.{comes, larger, smaller, same, against}
+use Rattle.model.specs.Refs.{Ref}
+use Rattle.model.specs.Tree.{Tree, Ghost, Holds}
 use Rattle.std.specs.List.{AllByRecursion as All}
 use Rattle.model_next.specs.Look.{stale, key_sight, back_sight, down_sight}
 use Rattle.walks.specs.Look.{taken}

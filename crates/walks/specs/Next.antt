@@ -1,5 +1,5 @@
 -- That what `next` holds shows its answer.
-use Rattle.std.specs.Prelude.{◌≡◌, ℕ, ◌<◌, Bool, T, List, [], ◌∷◌, ◌++◌, Option, slice_index}
+use Rattle.std.specs.Prelude.{◌≡◌, ℕ, ◌<◌, Bool, T, List, ◌∷◌, Option, slice_index}
 use Rattle.std.specs.List.{AllByRecursion as All}
 use Rattle.model.specs.Holds.{Hold}
 use Rattle.model.specs.Refs.{Ref, root}

@@ -1,4 +1,4 @@
-use Rattle.std.proofs.Common.{◌≡◌, sym, ap, ◌∙◌, rules}
+use Rattle.std.proofs.Common.{sym, ap, ◌∙◌, rules}
 use Rattle.std.proofs.lemmas.List.{get_or_past}
 use Rattle.keys.specs.Codes.{coded}
 use Rattle.index.specs.Trees.{no_leaf}

@@ -1,4 +1,4 @@
-use Rattle.std.proofs.Common.{refl, ap, rules}
+use Rattle.std.proofs.Common.{refl, ap}
 use Rattle.index.specs.Meets.{Meets}
 use Rattle.index.specs.declared.tree.Tree.{Tree}
 use Rattle.index.proofs.Kept.{ready_word, ready_written, ready_same, at_stage, drew_epoch, no_room_epoch}

@@ -1,9 +1,8 @@
-use Rattle.std.proofs.Common.{◌≡◌, ℕ, ◌+◌, ◌<◌, ◌≤◌, Bool, cond, List, [], ◌∷◌, ◌++◌, length, get_or, take, drop, sym, refl, ap, ◌∙◌, append-nil, arith}
+use Rattle.std.proofs.Common.{◌+◌, ◌<◌, ◌≤◌, Bool, cond, [], ◌∷◌, ◌++◌, length, get_or, take, drop, ap, ◌∙◌, arith}
 use mir.Val.{bool_byte}
 use Rattle.std.proofs.lemmas.List.{take_all, drop_all}
 use Rattle.pools.proofs.Around.{length_contents}
-use Rattle.index.specs.declared.tree.Retired.{Retired}
-use Rattle.index.specs.Sweeps.{older, freed_by, kept_by, Unswept}
+use Rattle.index.specs.Sweeps.{older, freed_by, kept_by}
 use Rattle.index.specs.Trees.{no_record, spare_of, retired_of}
 use Rattle.index.proofs.Sweeping.{first_left, kept_more, spare_more, count_more, one_or_none}
 use Rattle.index.proofs.tree.Tree.sweep.Goals as goal

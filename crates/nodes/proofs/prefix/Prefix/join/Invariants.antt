@@ -1,4 +1,4 @@
-use Rattle.std.proofs.Common.{◌≡◌, ◌∷◌, ◌++◌, take, drop}
+use Rattle.std.proofs.Common.{◌≡◌, ◌∷◌, ◌++◌, take}
 use Rattle.nodes.specs.Kept.{kept}
 use Rattle.nodes.proofs.prefix.Prefix.join.Given as goal
 

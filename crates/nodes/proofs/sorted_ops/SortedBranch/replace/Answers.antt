@@ -1,6 +1,4 @@
-use Rattle.std.proofs.Common.{◌≡◌, ◌<◌, length, get_or, set, Some, ◌∙◌, arith, length-set}
-use Rattle.nodes.specs.View.{Changed}
-use Rattle.nodes.specs.Listed.{listed}
+use Rattle.std.proofs.Common.{◌∙◌, arith, length-set}
 use Rattle.nodes.proofs.Views.{count_kept}
 use Rattle.nodes.proofs.Listing.{seek_taken}
 use Rattle.nodes.proofs.Shifted.{replaced_changed}

@@ -1,4 +1,4 @@
-use Rattle.std.proofs.Common.{◌≡◌, ◌+◌, ◌-◌, ◌<◌, ◌≤◌, length, set, sym, ap, subst, arith, rules}
+use Rattle.std.proofs.Common.{◌≡◌, ◌+◌, ◌<◌, length, set, sym, subst, arith, rules}
 use Rattle.pools.specs.Contents.{around}
 use Rattle.pools.proofs.Around.{put_high, put_low, put_back}
 use Rattle.pools.proofs.queue.Queue.put.Goals as goal

@@ -1,4 +1,4 @@
-use Rattle.std.proofs.Common.{◌≡◌, ◌+◌, ◌-◌, ◌<◌, ◌≤◌, length, take, Some, sym, ap, ◌∙◌, arith, rules}
+use Rattle.std.proofs.Common.{◌≡◌, ◌+◌, ◌-◌, ◌<◌, length, take, Some, sym, ap, ◌∙◌, arith, rules}
 use Rattle.pools.specs.Contents.{around, first, rest}
 use Rattle.pools.proofs.Around.{take_front, take_rest, around_end}
 use Rattle.pools.proofs.queue.Queue.take.Goals as goal

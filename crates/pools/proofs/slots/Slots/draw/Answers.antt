@@ -1,4 +1,4 @@
-use Rattle.std.proofs.Common.{◌≡◌, ◌∷◌, sym, refl, ap, ◌∙◌, subst, arith, rules}
+use Rattle.std.proofs.Common.{◌∷◌, sym, refl, ap, ◌∙◌, subst, arith}
 use Rattle.pools.specs.Spare.{Below}
 use Rattle.pools.proofs.Below.{below_rest, below_first, first_rest}
 use Rattle.pools.proofs.slots.Slots.draw.Goals as goal

@@ -1,4 +1,4 @@
-use Rattle.std.proofs.Common.{◌≡◌, ◌+◌, ◌<◌, true, length, sym, ap, ◌∙◌, subst, arith, rules}
+use Rattle.std.proofs.Common.{◌≡◌, ◌+◌, ◌<◌, true, length, sym, ◌∙◌, subst, arith, rules}
 use Rattle.pools.specs.Spare.{Below}
 use Rattle.pools.proofs.Below.{below_put}
 use Rattle.pools.proofs.slots.Slots.give_back.Goals as goal
