@@ -20,7 +20,7 @@ use Rattle.invariant.specs.Nexts.{Rises, Saw, Nexts}
 use Rattle.invariant.specs.Invariant.{Lawful, Walks, Aims, SeatOk, Inv}
 use Rattle.invariant.proofs.Setting.{Step, true_false, linked_mark, safe_not_spare, none_applies, seat_below, held_is, entry_reads, entry_locked, sound_steady, no_way, snoc_one, in_last, in_front}
 use native.Mathlib.Decide.{dec_le}
-use Rattle.std.specs.List.{slice_get, AllByRecursion as All}
+use Rattle.std.specs.List.{slice_get, AllByRecursion}
 use Rattle.std.proofs.lemmas.Bool.{eq-eqb, ne_eqb, le-ltb}
 use Rattle.model_next.specs.Look as picks
 use Rattle.latches.specs.Rules.{take_refusal, smallest, shared, held as shut, freed, freed_gone, revived}
@@ -157,11 +157,11 @@ rises_le : (lo : ℕ) (hs : List Hold) (hi : ℕ) → Rises lo hs hi → lo ≤ 
 rises_le lo [] hi r = r
 rises_le lo (h ∷ hs) hi r = let q = rises_le (suc h.depth) hs hi r.1 in omega (arith, q, r.0)
 
-rises_below : (lo : ℕ) (hs : List Hold) (hi : ℕ) → Rises lo hs hi → All (λ h. h.depth < hi) hs
+rises_below : (lo : ℕ) (hs : List Hold) (hi : ℕ) → Rises lo hs hi → AllByRecursion (λ h. h.depth < hi) hs
 rises_below lo [] hi r = tt
 rises_below lo (h ∷ hs) hi r = (rises_le (suc h.depth) hs hi r.1, rises_below (suc h.depth) hs hi r.1)
 
-all_every : (P : Hold → Type 0) (hs : List Hold) → All P hs → Every P hs
+all_every : (P : Hold → Type 0) (hs : List Hold) → AllByRecursion P hs → Every P hs
 all_every P [] a = tt
 all_every P (h ∷ hs) a = (a.0, all_every P hs a.1)
 
@@ -169,7 +169,7 @@ every_join : (P : Hold → Type 0) (hs ks : List Hold) → Every P hs → Every 
 every_join P [] ks a b = b
 every_join P (h ∷ hs) ks a b = (a.0, every_join P hs ks a.1 b)
 
-all_split : (P : Hold → Type 0) (hs ks : List Hold) → All P (hs ++ ks) → All P hs × All P ks
+all_split : (P : Hold → Type 0) (hs ks : List Hold) → AllByRecursion P (hs ++ ks) → AllByRecursion P hs × AllByRecursion P ks
 all_split P [] ks a = (tt, a)
 all_split P (h ∷ hs) ks a = let q = all_split P hs ks a.1 in ((a.0, q.0), q.1)
 
@@ -360,7 +360,7 @@ module _ {N : Numbers} {Key : List ℕ → Type 0} {σ : State} {g : Ghosts} {s 
   abbrev Good : Hold → Type 0
   Good h = SoundAt σ h × IsPermit h
 
-  all_good : (hs : List Hold) → Every (SoundAt σ) hs → Permits hs → All Good hs
+  all_good : (hs : List Hold) → Every (SoundAt σ) hs → Permits hs → AllByRecursion Good hs
   all_good [] a p = tt
   all_good (h ∷ hs) a p = ((a.0, p.0), all_good hs a.1 p.1)
 
@@ -369,7 +369,7 @@ module _ {N : Numbers} {Key : List ℕ → Type 0} {σ : State} {g : Ghosts} {s 
   seen_good walk.start a = tt
   seen_good (walk.on f hs ds k) a = walks.stable N.deep o.key σ.tree σ.tree (SoundAt σ) Good (walk.on f hs ds k) (all_stay (f ∷ hs), all_stay ds) a
     where
-      all_stay : (hs : List Hold) → All (walk.Stays N.deep o.key σ.tree σ.tree (SoundAt σ) Good) hs
+      all_stay : (hs : List Hold) → AllByRecursion (walk.Stays N.deep o.key σ.tree σ.tree (SoundAt σ) Good) hs
       all_stay [] = tt
       all_stay (h ∷ hs) = (record { was = λ q. q.0; key = λ _. refl; back = λ _ _. refl; down = λ _. refl }, all_stay hs)
 

@@ -1,6 +1,6 @@
 -- The answers of checks: what was seen under a sound permit is what is held.
 use Rattle.std.proofs.Common.{◌≡◌, ℕ, zero, suc, ◌-◌, ◌<◌, Bool, true, false, cond, ◌||◌, leb, ◌⊎◌, List, [], ◌∷◌, ◌++◌, length, get_or, Some, None, Option, sym, refl, ap, ◌∙◌, subst, inl, inr, ⊎_elim, arith}
-use Rattle.std.specs.List.{slice_get, AllByRecursion as All}
+use Rattle.std.specs.List.{slice_get, AllByRecursion}
 use Rattle.std.proofs.lemmas.Option.{slice_get_past}
 use Rattle.std.proofs.ByRecursion.{All-weaker}
 use Rattle.std.proofs.lemmas.Bool.{cases_eq}
@@ -144,16 +144,16 @@ sound_not m (Grip.Permit c w) = go m.gone m.locked refl refl (cases_eq m.count c
     go false false p q (inr n) = inr (λ s. n s.2)
 
 -- each is a sound permit, or some one would be refused
-sound_or : (σ : State) (hs : List Hold) → Permits hs → All (Ok σ) hs ⊎ Unsound σ hs 0
+sound_or : (σ : State) (hs : List Hold) → Permits hs → AllByRecursion (Ok σ) hs ⊎ Unsound σ hs 0
 sound_or σ [] p = inl tt
 sound_or σ (h ∷ hs) p = go (sound_not (σ.words h.at) h.grip) (sound_or σ hs p.1)
   where
-    go : SoundAt σ h ⊎ (SoundAt σ h → ⊥) → All (Ok σ) hs ⊎ Unsound σ hs 0 → All (Ok σ) (h ∷ hs) ⊎ Unsound σ (h ∷ hs) 0
+    go : SoundAt σ h ⊎ (SoundAt σ h → ⊥) → AllByRecursion (Ok σ) hs ⊎ Unsound σ hs 0 → AllByRecursion (Ok σ) (h ∷ hs) ⊎ Unsound σ (h ∷ hs) 0
     go (inl k) (inl a) = inl ((k, p.0), a)
     go (inl k) (inr (j, g, l, m, f)) = inr (suc j, g, omega arith, m, f)
     go (inr f) r = inr (0, h, omega arith, refl, f)
 
-split_all : (P : Hold → Type 0) (hs ds : List Hold) → All P (hs ++ ds) → All P hs × All P ds
+split_all : (P : Hold → Type 0) (hs ds : List Hold) → AllByRecursion P (hs ++ ds) → AllByRecursion P hs × AllByRecursion P ds
 split_all P [] ds a = (tt, a)
 split_all P (h ∷ hs) ds a = let r = split_all P hs ds a.1 in ((a.0, r.0), r.1)
 
@@ -202,10 +202,10 @@ pub scan_begins : {N : Numbers} {Key : List ℕ → Type 0} {σ : State} {g : Gh
 scan_begins {N = N} {Key = Key} {σ = σ} {g = g} w v s o e t a q =
     ⊎_elim (λ d. true_false (is_next o.task) (ap is_next t) d.0) (λ d. go (next_scans o.mode o.held o.stage a d.1 q) (sound_or σ o.held (v.calm s o e t))) (v.seats s o e).doing
   where
-    go : Scans N σ g o o.held a → All (Ok σ) o.held ⊎ Unsound σ o.held 0 → NextSaid (Holds σ.tree (ghost g)) o.key a ⊎ Unsound σ o.held 0
+    go : Scans N σ g o o.held a → AllByRecursion (Ok σ) o.held ⊎ Unsound σ o.held 0 → NextSaid (Holds σ.tree (ghost g)) o.key a ⊎ Unsound σ o.held 0
     go c (inr u) = inr u
     go c (inl k) =
-        let all = subst (All (Ok σ)) c.held k in
+        let all = subst (AllByRecursion (Ok σ)) c.held k in
         let ends = split_all (Ok σ) c.keys c.downs all.1 in
         let stay : (h : Hold) → Ok σ h → walk.Stays N.deep o.key σ.tree σ.tree (SoundAt σ) (Ok σ) h = λ h p. record { was = λ x. x.0; key = λ x. refl; back = λ x b. refl; down = λ x. refl } in
         let seen = walks.stable N.deep o.key σ.tree σ.tree (SoundAt σ) (Ok σ) (walk.on c.first c.keys c.downs (walk.scan c.place 0 c.result))

@@ -13,7 +13,7 @@ use Rattle.invariant.specs.Seats.{Reads}
 use Rattle.invariant.specs.Nexts.{Rises, Saw, Says, Nexts}
 use Rattle.invariant.specs.Invariant.{Aims, SeatOk}
 use Rattle.invariant.proofs.Setting.{Step, true_false, entry_reads, no_way, next_acts, every_snoc}
-use Rattle.std.specs.List.{slice_get, AllByRecursion as All}
+use Rattle.std.specs.List.{slice_get, AllByRecursion}
 use Rattle.std.proofs.lemmas.Bool.{leb-false}
 use Rattle.model_words.specs.Words.{Sound, Every, In}
 use Rattle.latches.specs.Rules.{shared}
@@ -180,7 +180,7 @@ module _ {N : Numbers} {Key : List ℕ → Type 0} {σ τ : State} {g : Ghosts} 
   abbrev Kept : Hold → Type 0
   Kept h = Stays N.deep o.key σ.tree τ.tree (SoundAt σ) (SoundAt τ) h
 
-  all_kept : (hs : List Hold) → All Kept hs
+  all_kept : (hs : List Hold) → AllByRecursion Kept hs
   all_kept [] = tt
   all_kept (h ∷ hs) = (
     stays N.deep o.key σ.tree τ.tree (SoundAt σ) (SoundAt τ) h (was h)

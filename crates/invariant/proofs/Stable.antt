@@ -27,7 +27,7 @@ use Rattle.model.specs.Sights.{seen}
 use Rattle.machine.specs.Choices as choices
 use Rattle.machine.specs.Items as Items
 use Rattle.model_next.specs.Look.{least}
-use Rattle.std.specs.List.{AllByRecursion as All}
+use Rattle.std.specs.List.{AllByRecursion}
 use Rattle.walks.specs.Walk as walk
 use Rattle.walks.specs.Walk.{Stays}
 use Rattle.walks.proofs.Same.{stays}
@@ -437,7 +437,7 @@ module _ {N : Numbers} {Key : List ℕ → Type 0} {σ τ : State} {g h : Ghosts
   stays_there k m = stays N.deep o.key σ.tree τ.tree (SoundAt σ) (SoundAt τ) k (was_sound k m)
       (λ s. let a = keeps k m s in (a.prefix_same, kids k.at a, λ b l q. ap (λ (x : trees.Entry). x.key) (kid_keeps k m b l q)))
 
-  all_stay : (hs : List Hold) → Has hs → All (Stays N.deep o.key σ.tree τ.tree (SoundAt σ) (SoundAt τ)) hs
+  all_stay : (hs : List Hold) → Has hs → AllByRecursion (Stays N.deep o.key σ.tree τ.tree (SoundAt σ) (SoundAt τ)) hs
   all_stay [] m = tt
   all_stay (k ∷ hs) m = (stays_there k (m k (inl refl)), all_stay hs (λ x q. m x (inr q)))
 

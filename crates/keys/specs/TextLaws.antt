@@ -1,6 +1,6 @@
 use Rattle.std.specs.Prelude.{◌≡◌, ℕ, ◌-◌, ◌<◌, Bool, true, false, not, List, [], ◌∷◌, ◌++◌, length, drop, replicate, Decides, ◌≢◌, slice_index, refl}
 use Rattle.std.proofs.Common.{sym, ap, ap₂, ◌∙◌, inl, inr, arith, length-take, take-append-drop}
-use Rattle.std.specs.List.{ContainsAt as Has, AllByRecursion as All}
+use Rattle.std.specs.List.{ContainsAt as Has, AllByRecursion}
 use Rattle.std.proofs.ByRecursion.{all-has, All-from_get_or}
 use Rattle.std.proofs.lemmas.List.{same_from_push, length_push, get_or_default}
 use Rattle.std.proofs.lemmas.Bool.{false≢true}
@@ -13,7 +13,7 @@ use Rattle.keys.specs.contracts.text.Text as text
 
 -- no byte is 00
 abbrev Filled : List ℕ → Type 0
-Filled = All (λ b. 0 < b)
+Filled = AllByRecursion (λ b. 0 < b)
 
 -- an end of 00 keeps the order
 first_ended : (s t : List ℕ) → Filled s → Filled t → First s t → First (s ++ 0 ∷ []) (t ++ 0 ∷ [])

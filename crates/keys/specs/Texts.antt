@@ -1,5 +1,5 @@
 use Rattle.std.specs.Prelude.{◌≡◌, ℕ, ◌<◌, List, [], ◌∷◌, ◌++◌, length, take, Ok, Err, Result}
-use Rattle.std.specs.List.{AllByRecursion as All}
+use Rattle.std.specs.List.{AllByRecursion}
 use Rattle.terms.specs.declared.Refusal.{Refusal}
 use Rattle.terms.specs.Numbers.{refusal_number}
 use Rattle.keys.specs.Bytes.{First}
@@ -17,7 +17,7 @@ Made s (Err e) = (refusal_number e ≡ 6) × (text_room < length s)
 
 -- bytes with room for an end behind them, none of them 00
 abbrev pub Plain : List ℕ → Type 0
-Plain s = (length s < longest_key) × All (λ b. 0 < b) s
+Plain s = (length s < longest_key) × AllByRecursion (λ b. 0 < b) s
 
 abbrev pub Accepted : Text → Type 0
 Accepted t = Plain (spelled t)

@@ -1,6 +1,6 @@
 -- Worked lines of the codings.
 use Rattle.std.specs.Prelude.{◌≡◌, ℕ, ◌<◌, List, [], ◌∷◌, length, negsuc, Ok, Err, Result}
-use Rattle.std.specs.List.{AllByRecursion as All}
+use Rattle.std.specs.List.{AllByRecursion}
 use Rattle.terms.specs.declared.Refusal.{Refusal}
 use Rattle.terms.specs.Numbers.{refusal_number}
 use Rattle.keys.specs.declared.code.Code.{Code}
@@ -31,5 +31,5 @@ pub record WorkedKeys : Type 0 where
   pub empty : (t : Text) (r : Result Code Refusal) → spelled t ≡ [] → Coded Accepted text_bytes t r → Gives r (0x00 ∷ [])
   pub one : (t : Text) (r : Result Code Refusal) → spelled t ≡ 0x61 ∷ [] → Coded Accepted text_bytes t r → Gives r (0x61 ∷ 0x00 ∷ [])
   -- fifteen bytes, and sixteen
-  pub fifteen : (t : Text) (r : Result Code Refusal) → length (spelled t) ≡ 15 → All (λ b. 0 < b) (spelled t) → Coded Accepted text_bytes t r → Passes r
+  pub fifteen : (t : Text) (r : Result Code Refusal) → length (spelled t) ≡ 15 → AllByRecursion (λ b. 0 < b) (spelled t) → Coded Accepted text_bytes t r → Passes r
   pub sixteen : (t : Text) (r : Result Code Refusal) → length (spelled t) ≡ 16 → Coded Accepted text_bytes t r → Refuses r 6

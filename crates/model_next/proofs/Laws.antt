@@ -1,7 +1,7 @@
 -- The laws, from their parts.
 use Rattle.std.proofs.Common.{◌≡◌, ℕ, zero, suc, ◌<◌, Bool, true, false, T, ◌⊎◌, List, [], ◌∷◌, ◌++◌, length, get_or, Some, None, sym, refl, ap, ◌∙◌, subst, ap₂, inl, inr, ⊎_elim, arith}
 use Rattle.std.proofs.lemmas.Bool.{cases_eq}
-use Rattle.std.specs.List.{AllByRecursion as All}
+use Rattle.std.specs.List.{AllByRecursion}
 use Rattle.model.specs.Bytes.{◌≼◌}
 use Rattle.model.specs.Tree.{Holds}
 use Rattle.model_next.specs.Look.{Hold, taken}
@@ -55,16 +55,16 @@ one_stands S G k (Some (a, v)) (Some (b, w)) one p q =
     ap₂ (λ (u : List ℕ) (m : ℕ). Some (u, m)) e i
 
 -- each is sound, or some one is not
-sound_or : (ok : Hold → Bool) (hs : List Hold) → All (λ (h : Hold). T (ok h)) hs ⊎ Bad ok hs 0
+sound_or : (ok : Hold → Bool) (hs : List Hold) → AllByRecursion (λ (h : Hold). T (ok h)) hs ⊎ Bad ok hs 0
 sound_or ok [] = inl tt
 sound_or ok (h ∷ hs) = go (ok h) refl (sound_or ok hs)
   where
-    go : (b : Bool) → ok h ≡ b → All (λ (g : Hold). T (ok g)) hs ⊎ Bad ok hs 0 → All (λ (g : Hold). T (ok g)) (h ∷ hs) ⊎ Bad ok (h ∷ hs) 0
+    go : (b : Bool) → ok h ≡ b → AllByRecursion (λ (g : Hold). T (ok g)) hs ⊎ Bad ok hs 0 → AllByRecursion (λ (g : Hold). T (ok g)) (h ∷ hs) ⊎ Bad ok (h ∷ hs) 0
     go true e (inl a) = inl (subst T (sym e) tt, a)
     go true e (inr (j, g, l, m, i, f)) = inr (suc j, g, omega arith, omega arith, i, f)
     go false e r = inr (0, h, omega arith, omega arith, refl, e)
 
-split_all : (P : Hold → Type 0) (hs ds : List Hold) → All P (hs ++ ds) → All P hs × All P ds
+split_all : (P : Hold → Type 0) (hs ds : List Hold) → AllByRecursion P (hs ++ ds) → AllByRecursion P hs × AllByRecursion P ds
 split_all P [] ds a = (tt, a)
 split_all P (h ∷ hs) ds a = let r = split_all P hs ds a.1 in ((a.0, r.0), r.1)
 
@@ -73,7 +73,7 @@ any_default [] j g h l = absurd (omega arith)
 any_default (x ∷ hs) zero g h l = refl
 any_default (x ∷ hs) (suc j) g h l = any_default hs j g h (omega arith)
 
-all_at : (P : Hold → Type 0) (hs : List Hold) (j : ℕ) (h : Hold) → All P hs → j < length hs → h ≡ get_or hs j h → P h
+all_at : (P : Hold → Type 0) (hs : List Hold) (j : ℕ) (h : Hold) → AllByRecursion P hs → j < length hs → h ≡ get_or hs j h → P h
 all_at P [] j h a l e = absurd (omega arith)
 all_at P (x ∷ hs) zero h a l e = subst P (sym e) a.0
 all_at P (x ∷ hs) (suc j) h a l e = all_at P hs j h a.1 (omega arith) e

@@ -1,7 +1,7 @@
 -- With every permit sound at one time, what `next` has in hand is the first pair not below its key.
 use Rattle.std.proofs.Common.{◌≡◌, ℕ, zero, suc, ◌+◌, ◌-◌, ◌<◌, ◌≤◌, Bool, false, cond, T, leb, List, [], ◌∷◌, ◌++◌, length, get_or, drop, Some, None, Option, sym, refl, ap, ◌∙◌, subst, inl, ⊎_elim, arith, length-append}
 use Rattle.std.proofs.lemmas.Bool.{cases_order, lt-leb}
-use Rattle.std.specs.List.{AllByRecursion as All}
+use Rattle.std.specs.List.{AllByRecursion}
 use Rattle.model.specs.Bytes.{◌≼◌}
 use Rattle.model.specs.Refs.{Ref, root, IsNode}
 use Rattle.model.specs.Tree.{Tree, child, prefix, Ghost, Linked, TreeOk, Holds}
@@ -92,7 +92,7 @@ module _ {deep : ℕ} {Key : List ℕ → Type 0} {flux : Ref → Type 0} {S : T
 
   module _ (Ok : Hold → Type 0) where
     -- the way down leads to the smallest leaf
-    down : (h : Hold) (hs : List Hold) (i : ℕ) → IsNode h.ref → Linked G h.ref → SawDown deep S Ok h hs (got i) → Ok h → All Ok hs → Best S G (G.path h.ref) i
+    down : (h : Hold) (hs : List Hold) (i : ℕ) → IsNode h.ref → Linked G h.ref → SawDown deep S Ok h hs (got i) → Ok h → AllByRecursion Ok hs → Best S G (G.path h.ref) i
     down h [] i n l saw o os =
         let v = down_view deep S h.ref h.depth (got i) (saw o) (λ e. let z : ◌≡◌ {A = ℕ} 0 1 = cc e in omega arith) in
         let s = smallest_some S h.ref v.0 v.1 v.2 in
@@ -108,7 +108,7 @@ module _ {deep : ℕ} {Key : List ℕ → Type 0} {flux : Ref → Type 0} {S : T
         (down g hs i e.1 (subst (Linked G) e.0 (t.kid h.ref v.0 v.1 l s.0).0) saw.1 os.0 os.1))
 
     -- a child picked leads to its smallest leaf
-    led : (y : Ref) (e : ℕ) (s : Sight) (hs : List Hold) (r : Option ℕ) → Linked G y → picks y e ≡ s → Led deep S Ok s hs r → All Ok hs → (i : ℕ) × (r ≡ Some i) × Best S G (G.path y) i
+    led : (y : Ref) (e : ℕ) (s : Sight) (hs : List Hold) (r : Option ℕ) → Linked G y → picks y e ≡ s → Led deep S Ok s hs r → AllByRecursion Ok hs → (i : ℕ) × (r ≡ Some i) × Best S G (G.path y) i
     led (leaf j) e s [] None l p q os = let z : ◌≡◌ {A = ℕ} 0 1 = cc (p, q) in absurd (omega arith)
     led (leaf j) e s [] (Some i) l p q os = let m : j ≡ i = cc (p, q) in (j, ap Some (sym m), leaf_best j l)
     led (leaf j) e s (h ∷ hs) None l p q os = absurd q
@@ -166,7 +166,7 @@ module _ {deep : ℕ} {Key : List ℕ → Type 0} {flux : Ref → Type 0} {S : T
 
       -- nothing under the key's byte counts: the smallest child past it has the answer
       beyond : (x : Ref) (b e : ℕ) (s : Sight) (hs : List Hold) (r : Option ℕ) (o : Option (ℕ × Ref)) → IsNode x → Linked G x → G.full x ++ b ∷ [] ≼ k
-          → Answer S G k (G.full x ++ b ∷ []) None → past S x b ≡ o → picked o e back ≡ s → Led deep S Ok s hs r → All Ok hs → Answer S G k (G.path x) r
+          → Answer S G k (G.full x ++ b ∷ []) None → past S x b ≡ o → picked o e back ≡ s → Led deep S Ok s hs r → AllByRecursion Ok hs → Answer S G k (G.path x) r
       beyond x b e s hs r None n l hk low p q d os =
           subst (Answer S G k (G.path x)) (sym (led_back s hs r (sym q) d)) (λ j lj h.
           let w = way x j n l lj h in
@@ -236,7 +236,7 @@ module _ {deep : ℕ} {Key : List ℕ → Type 0} {flux : Ref → Type 0} {S : T
       unfit x b (Some (node c i)) n l e q j lj h = absurd q
 
       -- the newest look at the last node of the key's way
-      ends : (h : Hold) (s : Sight) (hs : List Hold) (r : Option ℕ) → OnKey h → KeyView S k h.ref h.depth s → Led deep S Ok s hs r → All Ok hs → Answer S G k (G.path h.ref) r
+      ends : (h : Hold) (s : Sight) (hs : List Hold) (r : Option ℕ) → OnKey h → KeyView S k h.ref h.depth s → Led deep S Ok s hs r → AllByRecursion Ok hs → Answer S G k (G.path h.ref) r
       ends h s hs r o (KeyView.above c y a p q) d os =
           let v = smallest_some S h.ref c y p in
           let m = led y _ s hs r (t.kid h.ref c y o.linked v.0).0 q d os in
@@ -329,7 +329,7 @@ module _ {deep : ℕ} {Key : List ℕ → Type 0} {flux : Ref → Type 0} {S : T
 
         -- from the newest node on the key's way to the first: the answer among the keys under each
         answer : (h : Hold) (hs : List Hold) (n : ℕ) (s : Sight) (ds : List Hold) (r : Option ℕ) → OnKey h
-            → Saw deep S k Ok (h ∷ hs) n s → Led deep S Ok s ds r → Past n r → Ok h → All Ok hs → All Ok ds → Answer S G k (G.path h.ref) r
+            → Saw deep S k Ok (h ∷ hs) n s → Led deep S Ok s ds r → Past n r → Ok h → AllByRecursion Ok hs → AllByRecursion Ok ds → Answer S G k (G.path h.ref) r
         answer h [] zero s ds r ok saw d p o os od = ends h s ds r ok (key_view S k h.ref h.depth s deep (saw o) (never_stale s ds r d)) d od
         answer h [] (suc n) s ds r ok saw d p o os od = absurd saw
         answer h (g ∷ hs) zero s ds r ok saw d p o os od =
@@ -423,23 +423,23 @@ module _ {deep : ℕ} {Key : List ℕ → Type 0} {flux : Ref → Type 0} {S : T
             let w = onwards h g k' (key_view S k h.ref h.depth _ deep e (onward_fresh g.ref g.depth)) in
             stands g w.is_node w.linked (on_key h g w) (at_depth h g w) o
 
-        newest_on : (h : Hold) (hs : List Hold) → OnKey h → Links deep S k Ok h hs → Ok h → All Ok hs → OnKey (newest h hs)
+        newest_on : (h : Hold) (hs : List Hold) → OnKey h → Links deep S k Ok h hs → Ok h → AllByRecursion Ok hs → OnKey (newest h hs)
         newest_on h [] k' w o os = k'
         newest_on h (g ∷ hs) k' w o os = newest_on g hs (next_on h g k' (w.0 o) os.0) w.1 os.0 os.1
 
-        place_on : (h : Hold) (hs : List Hold) (n : ℕ) → OnKey h → Saw deep S k Ok (h ∷ hs) (suc n) back → Ok h → All Ok hs → OnKey (place h hs n)
+        place_on : (h : Hold) (hs : List Hold) (n : ℕ) → OnKey h → Saw deep S k Ok (h ∷ hs) (suc n) back → Ok h → AllByRecursion Ok hs → OnKey (place h hs n)
         place_on h hs zero k' w o os = k'
         place_on h [] (suc n) k' w o os = absurd w
         place_on h (g ∷ hs) (suc n) k' w o os = place_on g hs n (next_on h g k' (w.0 o) os.0) w.1 os.0 os.1
 
-        aside_on : (h : Hold) (hs : List Hold) (n : ℕ) (g : Hold) → OnKey h → Saw deep S k Ok (h ∷ hs) n (aside g.ref g.depth) → Ok h → All Ok hs → Ok g → OnDown g
+        aside_on : (h : Hold) (hs : List Hold) (n : ℕ) (g : Hold) → OnKey h → Saw deep S k Ok (h ∷ hs) n (aside g.ref g.depth) → Ok h → AllByRecursion Ok hs → Ok g → OnDown g
         aside_on h [] zero g k' w o os og = key_down h g k' (key_view S k h.ref h.depth _ deep (w o) (aside_fresh g.ref g.depth)) og
         aside_on h [] (suc n) g k' w o os og = absurd w
         aside_on h (x ∷ hs) zero g k' w o os og =
             past_down h g (taken k x) (past S h.ref (taken k x)) k' refl (back_view deep S (taken k x) h.ref h.depth _ (w.2 o) (aside_fresh g.ref g.depth)) og
         aside_on h (x ∷ hs) (suc n) g k' w o os og = aside_on x hs n g (next_on h x k' (w.0 o) os.0) w.1 os.0 os.1 og
 
-        newest_down : (h : Hold) (hs : List Hold) → OnDown h → DownLinks deep S k Ok h hs → Ok h → All Ok hs → OnDown (newest h hs)
+        newest_down : (h : Hold) (hs : List Hold) → OnDown h → DownLinks deep S k Ok h hs → Ok h → AllByRecursion Ok hs → OnDown (newest h hs)
         newest_down h [] k' w o os = k'
         newest_down h (g ∷ hs) k' w o os =
             let v = down_view deep S h.ref h.depth _ (w.0 o) (aside_fresh g.ref g.depth) in
@@ -449,13 +449,13 @@ module _ {deep : ℕ} {Key : List ℕ → Type 0} {flux : Ref → Type 0} {S : T
         root_on' f e o = root_on f (ap (λ (h : Hold). h.ref) e) (ap (λ (h : Hold). h.depth) e) o
 
         -- with every permit sound, a look is not stale
-        pub fresh_look : (f : Hold) (hs : List Hold) → Key k → Seen deep S k Ok (on f hs [] look_key) → Ok f → All Ok hs → key_sight deep S k (newest f hs).ref (newest f hs).depth ≡ stale → ⊥
+        pub fresh_look : (f : Hold) (hs : List Hold) → Key k → Seen deep S k Ok (on f hs [] look_key) → Ok f → AllByRecursion Ok hs → key_sight deep S k (newest f hs).ref (newest f hs).depth ≡ stale → ⊥
         fresh_look f hs key w o os = fresh_key (newest f hs) key (newest_on f hs (root_on' f w.0 o) w.1 o os)
 
-        pub fresh_look_back : (f : Hold) (hs : List Hold) (n b : ℕ) → Seen deep S k Ok (on f hs [] (look_back n)) → Ok f → All Ok hs → back_sight deep S b (place f hs n).ref (place f hs n).depth ≡ stale → ⊥
+        pub fresh_look_back : (f : Hold) (hs : List Hold) (n b : ℕ) → Seen deep S k Ok (on f hs [] (look_back n)) → Ok f → AllByRecursion Ok hs → back_sight deep S b (place f hs n).ref (place f hs n).depth ≡ stale → ⊥
         fresh_look_back f hs n b w o os = fresh_back (place f hs n) b (place_on f hs n (root_on' f w.0 o) w.1 o os)
 
-        pub fresh_look_down : (f g : Hold) (hs ds : List Hold) (n : ℕ) → Seen deep S k Ok (on f hs (g ∷ ds) (look_down n)) → Ok f → All Ok hs → All Ok (g ∷ ds)
+        pub fresh_look_down : (f g : Hold) (hs ds : List Hold) (n : ℕ) → Seen deep S k Ok (on f hs (g ∷ ds) (look_down n)) → Ok f → AllByRecursion Ok hs → AllByRecursion Ok (g ∷ ds)
             → down_sight deep S (newest g ds).ref (newest g ds).depth ≡ stale → ⊥
         fresh_look_down f g hs ds n w o os od =
             let d : OnDown g = aside_on f hs n g (root_on' f w.0 o) (subst (Saw deep S k Ok (f ∷ hs) n) w.1.2.0 w.1.1) o os od.0 in

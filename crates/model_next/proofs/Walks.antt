@@ -1,6 +1,6 @@
 -- Each step of `next`, and each step of others, leaves true what it has seen.
 use Rattle.std.proofs.Common.{◌≡◌, ℕ, zero, suc, List, [], ◌∷◌, ◌++◌, length, Some, None, Option, refl, ap, ◌∙◌, subst, arith}
-use Rattle.std.specs.List.{AllByRecursion as All}
+use Rattle.std.specs.List.{AllByRecursion}
 use Rattle.model.specs.Refs.{Ref, root}
 use Rattle.model.specs.Tree.{Tree}
 use Rattle.model_next.specs.Look.{Sight, stale, back, onward, aside, got, key_sight, back_sight, down_sight, Hold, taken, Saw, SawDown, Led, past}
@@ -92,40 +92,40 @@ module _ (deep : ℕ) (S : Tree) (k : List ℕ) (Ok : Hold → Type 0) where
 
 -- a step of others
 module _ (deep : ℕ) (k : List ℕ) (S S' : Tree) (Ok Ok' : Hold → Type 0) where
-  saw_stays : (hs : List Hold) (n : ℕ) (s : Sight) → All (Stays deep k S S' Ok Ok') hs → Saw deep S k Ok hs n s → Saw deep S' k Ok' hs n s
+  saw_stays : (hs : List Hold) (n : ℕ) (s : Sight) → AllByRecursion (Stays deep k S S' Ok Ok') hs → Saw deep S k Ok hs n s → Saw deep S' k Ok' hs n s
   saw_stays [] n s a h = h
   saw_stays (f ∷ []) zero s a h = λ o. a.0.key o ∙ h (a.0.was o)
   saw_stays (f ∷ []) (suc n) s a h = h
   saw_stays (f ∷ g ∷ hs) zero s a h = (λ o. a.0.key o ∙ h.0 (a.0.was o), saw_stays (g ∷ hs) zero back a.1 h.1, λ o. a.0.back o (taken k g) ∙ h.2 (a.0.was o))
   saw_stays (f ∷ g ∷ hs) (suc n) s a h = (λ o. a.0.key o ∙ h.0 (a.0.was o), saw_stays (g ∷ hs) n s a.1 h.1)
 
-  links_stay : (f : Hold) (hs : List Hold) → All (Stays deep k S S' Ok Ok') (f ∷ hs) → Links deep S k Ok f hs → Links deep S' k Ok' f hs
+  links_stay : (f : Hold) (hs : List Hold) → AllByRecursion (Stays deep k S S' Ok Ok') (f ∷ hs) → Links deep S k Ok f hs → Links deep S' k Ok' f hs
   links_stay f [] a h = tt
   links_stay f (g ∷ hs) a h = (λ o. a.0.key o ∙ h.0 (a.0.was o), links_stay g hs a.1 h.1)
 
-  down_stays : (f : Hold) (hs : List Hold) (s : Sight) → All (Stays deep k S S' Ok Ok') (f ∷ hs) → SawDown deep S Ok f hs s → SawDown deep S' Ok' f hs s
+  down_stays : (f : Hold) (hs : List Hold) (s : Sight) → AllByRecursion (Stays deep k S S' Ok Ok') (f ∷ hs) → SawDown deep S Ok f hs s → SawDown deep S' Ok' f hs s
   down_stays f [] s a h = λ o. a.0.down o ∙ h (a.0.was o)
   down_stays f (g ∷ hs) s a h = (λ o. a.0.down o ∙ h.0 (a.0.was o), down_stays g hs s a.1 h.1)
 
-  downs_stay : (f : Hold) (hs : List Hold) → All (Stays deep k S S' Ok Ok') (f ∷ hs) → DownLinks deep S k Ok f hs → DownLinks deep S' k Ok' f hs
+  downs_stay : (f : Hold) (hs : List Hold) → AllByRecursion (Stays deep k S S' Ok Ok') (f ∷ hs) → DownLinks deep S k Ok f hs → DownLinks deep S' k Ok' f hs
   downs_stay f [] a h = tt
   downs_stay f (g ∷ hs) a h = (λ o. a.0.down o ∙ h.0 (a.0.was o), downs_stay g hs a.1 h.1)
 
-  open_stays : (s : Sight) (ds : List Hold) → All (Stays deep k S S' Ok Ok') ds → DownOpen deep S k Ok s ds → DownOpen deep S' k Ok' s ds
+  open_stays : (s : Sight) (ds : List Hold) → AllByRecursion (Stays deep k S S' Ok Ok') ds → DownOpen deep S k Ok s ds → DownOpen deep S' k Ok' s ds
   open_stays s [] a h = h
   open_stays s (f ∷ ds) a h = (h.0, downs_stay f ds a h.1)
 
-  to_stays : (s : Sight) (ds : List Hold) (y : Ref) (e : ℕ) → All (Stays deep k S S' Ok Ok') ds → DownTo deep S k Ok s ds y e → DownTo deep S' k Ok' s ds y e
+  to_stays : (s : Sight) (ds : List Hold) (y : Ref) (e : ℕ) → AllByRecursion (Stays deep k S S' Ok Ok') ds → DownTo deep S k Ok s ds y e → DownTo deep S' k Ok' s ds y e
   to_stays s [] y e a h = h
   to_stays s (f ∷ ds) y e a h = (h.0, down_stays f ds (aside y e) a h.1)
 
-  led_stays : (s : Sight) (ds : List Hold) (r : Option ℕ) → All (Stays deep k S S' Ok Ok') ds → Led deep S Ok s ds r → Led deep S' Ok' s ds r
+  led_stays : (s : Sight) (ds : List Hold) (r : Option ℕ) → AllByRecursion (Stays deep k S S' Ok Ok') ds → Led deep S Ok s ds r → Led deep S' Ok' s ds r
   led_stays s [] None a h = h
   led_stays s [] (Some i) a h = h
   led_stays s (f ∷ ds) None a h = h
   led_stays s (f ∷ ds) (Some i) a h = (h.0, down_stays f ds (got i) a h.1)
 
-  at_stays : (f : Hold) (hs ds : List Hold) (g : Stage) → All (Stays deep k S S' Ok Ok') (f ∷ hs) → All (Stays deep k S S' Ok Ok') ds → SeenAt deep S k Ok f hs ds g → SeenAt deep S' k Ok' f hs ds g
+  at_stays : (f : Hold) (hs ds : List Hold) (g : Stage) → AllByRecursion (Stays deep k S S' Ok Ok') (f ∷ hs) → AllByRecursion (Stays deep k S S' Ok Ok') ds → SeenAt deep S k Ok f hs ds g → SeenAt deep S' k Ok' f hs ds g
   at_stays f hs ds (take_key y d) a b h = saw_stays (f ∷ hs) (length hs) (onward y d) a h
   at_stays f hs ds check_key a b h = links_stay f hs a h
   at_stays f hs ds look_key a b h = links_stay f hs a h

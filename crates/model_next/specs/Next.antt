@@ -1,6 +1,6 @@
 -- What `next` answers, and that what it holds shows it.
 use Rattle.std.specs.Prelude.{◌≡◌, ℕ, ◌<◌, Bool, T, List, ◌∷◌, Some, None, Option, slice_index}
-use Rattle.std.specs.List.{AllByRecursion as All}
+use Rattle.std.specs.List.{AllByRecursion}
 use Rattle.model.specs.Refs.{Ref, root}
 use Rattle.model.specs.Tree.{Tree, Ghost, TreeOk, Holds}
 use Rattle.keys.specs.Bytes.{First}
@@ -40,8 +40,8 @@ pub record Trail (deep : ℕ) (S : Tree) (k : List ℕ) (Ok : Hold → Type 0) (
 
 -- every node held has a sound permit now, and such a node is not half moved
 pub record SoundNow {deep : ℕ} {S : Tree} {k : List ℕ} {r : Option ℕ} (Ok : Hold → Type 0) (flux : Ref → Type 0) (t : Trail deep S k Ok r) : Type 0 where
-  pub keys : All Ok (t.first ∷ t.keys)
-  pub downs : All Ok t.downs
+  pub keys : AllByRecursion Ok (t.first ∷ t.keys)
+  pub downs : AllByRecursion Ok t.downs
   pub still : (h : Hold) → Ok h → flux h.ref → ⊥
 
 -- If each permit held is sound at one time, the result in hand is the map's answer at that time.

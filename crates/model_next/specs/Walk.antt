@@ -1,6 +1,6 @@
 -- The walk of `next`, step by step, and what it has seen at each stage.
 use Rattle.std.specs.Prelude.{◌≡◌, ℕ, zero, suc, List, [], ◌∷◌, ◌++◌, length, Some, None, Option}
-use Rattle.std.specs.List.{AllByRecursion as All}
+use Rattle.std.specs.List.{AllByRecursion}
 use Rattle.model.specs.Refs.{Ref, root}
 use Rattle.model.specs.Tree.{Tree}
 use Rattle.model_next.specs.Look.{Sight, stale, back, onward, aside, got, key_sight, back_sight, down_sight, Hold, taken, Saw, SawDown, Led}
@@ -112,4 +112,4 @@ pub record Stays (deep : ℕ) (k : List ℕ) (S S' : Tree) (Ok Ok' : Hold → Ty
 
 abbrev pub HeldStays : (Hold → Type 0) → Walk → Type 0
 HeldStays P start = Unit {0}
-HeldStays P (on f hs ds g) = All P (f ∷ hs) × All P ds
+HeldStays P (on f hs ds g) = AllByRecursion P (f ∷ hs) × AllByRecursion P ds

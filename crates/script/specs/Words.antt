@@ -1,6 +1,6 @@
 -- The words of a line, parted by single spaces.
 use Rattle.std.specs.Prelude.{ℕ, ◌≤◌, Bool, true, false, cond, List, [], ◌∷◌, drop, Some, None, Option, ◌==◌, slice_index}
-use Rattle.std.specs.List.{AllByRecursion as All}
+use Rattle.std.specs.List.{AllByRecursion}
 
 -- the bytes before the first space
 abbrev pub first_word : List ℕ → List ℕ
@@ -18,4 +18,4 @@ word_of bs = cond (slice_index bs 0 == 0x27) (true, drop 1 bs) (false, bs)
 
 -- bytes that a text of a script may have
 abbrev pub Printable : List ℕ → Type 0
-Printable = All (λ b. (0x21 ≤ b) × (b ≤ 0x7E))
+Printable = AllByRecursion (λ b. (0x21 ≤ b) × (b ≤ 0x7E))
