@@ -18,7 +18,7 @@ use Rattle.model_tree.specs.Meets.{Stands}
 use Rattle.model_tree.specs.Theorems.{Looks}
 use Rattle.model.proofs.Bytes.{≼_under}
 use Rattle.model_tree.proofs.Theorems.{tree_keeps_lem}
-use Rattle.model_look.specs.Tells.{kind_of, refs, Shows, Walks, Missed, Goes_on, Tells, Told, LooksTell, WalksGo}
+use Rattle.model_look.specs.Tells.{kind_of, refs, Shows, Walks, Missed, GoesOn, Tells, Told, LooksTell, WalksGo}
 use Rattle.model_look.proofs.Meeting.{meeting}
 
 -- a beginning and what is dropped after it
@@ -40,7 +40,7 @@ module _ (Key : List ℕ → Type 0) (S : Tree) (G : Ghost) (x : Ref) (k : List 
   on_key : (v : List ℕ) → v ≼ drop d k → (G.path x ++ v) ≼ k
   on_key v h = subst (λ (u : List ℕ). (G.path x ++ v) ≼ u) (stands S G x k d w).rest (≼_under (G.path x) v (drop d k) h)
 
-  goes_on : (b : ℕ) (o : Option Ref) → (prefix S x ++ (b ∷ [])) ≼ drop d k → child S x b ≡ o → Goes_on S G x k b o
+  goes_on : (b : ℕ) (o : Option Ref) → (prefix S x ++ (b ∷ [])) ≼ drop d k → child S x b ≡ o → GoesOn S G x k b o
   goes_on b o h e = record {
     there = e;
     way = subst (λ (u : List ℕ). (u ++ (b ∷ [])) ≼ k) w.steady
@@ -63,16 +63,16 @@ module _ (Key : List ℕ → Type 0) (S : Tree) (G : Ghost) (x : Ref) (k : List 
 
   found : (b : ℕ) → (prefix S x ++ (b ∷ [])) ≼ drop d k → b ≡ get_or k (d + length (prefix S x)) 0
       → (o : Option Child) → child S x b ≡ refs o → Tells Key S G x (prefix S x) k d (under o (d + length (prefix S x) + 1))
-  found b h q None e = (subst (λ (c : ℕ). Goes_on S G x k c None) q (goes_on b None h e), l.none b h e)
+  found b h q None e = (subst (λ (c : ℕ). GoesOn S G x k c None) q (goes_on b None h e), l.none b h e)
   found b h q (Some (kid.Leaf s)) e = (
-    subst (λ (c : ℕ). Goes_on S G x k c (Some (leaf s))) q (goes_on b (Some (leaf s)) h e),
+    subst (λ (c : ℕ). GoesOn S G x k c (Some (leaf s))) q (goes_on b (Some (leaf s)) h e),
     record { other = λ n. l.other b s h e n; same = λ n. l.same b s e n },
   )
   found b h q (Some (kid.Node c s)) e =
       let y = node (kind_of c) s in
       let m = l.down b y tt h e in
       let g = w.depth in (
-        subst (λ (a : ℕ). Goes_on S G x k a (Some y)) q (goes_on b (Some y) h e),
+        subst (λ (a : ℕ). GoesOn S G x k a (Some y)) q (goes_on b (Some y) h e),
         record { linked' = m.0; way = m.1; depth = m.2 ∙ ap (λ (n : ℕ). n + length (prefix S x) + 1) g },
       )
 

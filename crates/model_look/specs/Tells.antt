@@ -63,7 +63,7 @@ pub record Missed (S : Tree) (G : Ghost) (x : Ref) (p k : List ℕ) (d i : ℕ) 
   pub lacks : Lacks S G k
 
 -- the key goes on past x by the byte b, where o stands
-pub record Goes_on (S : Tree) (G : Ghost) (x : Ref) (k : List ℕ) (b : ℕ) (o : Option Ref) : Type 0 where
+pub record GoesOn (S : Tree) (G : Ghost) (x : Ref) (k : List ℕ) (b : ℕ) (o : Option Ref) : Type 0 where
   pub there : child S x b ≡ o
   pub way : (G.full x ++ (b ∷ [])) ≼ k
 
@@ -79,10 +79,10 @@ pub record NodeSeen (G : Ghost) (k : List ℕ) (y : Ref) (e : ℕ) : Type 0 wher
 abbrev pub Tells : (List ℕ → Type 0) → Tree → Ghost → Ref → List ℕ → List ℕ → ℕ → Seen → Type 0
 Tells Key S G x p k d seen.Stale = Key k → ⊥
 Tells Key S G x p k d (seen.Miss i) = Missed S G x p k d i
-Tells Key S G x p k d seen.Empty = Goes_on S G x k (slice_index k (d + length p)) None × Lacks S G k
-Tells Key S G x p k d (seen.Leaf s) = Goes_on S G x k (slice_index k (d + length p)) (Some (leaf s)) × LeafSeen S G k s
+Tells Key S G x p k d seen.Empty = GoesOn S G x k (slice_index k (d + length p)) None × Lacks S G k
+Tells Key S G x p k d (seen.Leaf s) = GoesOn S G x k (slice_index k (d + length p)) (Some (leaf s)) × LeafSeen S G k s
 Tells Key S G x p k d (seen.Node c s e) =
-    Goes_on S G x k (slice_index k (d + length p)) (Some (node (kind_of c) s)) × NodeSeen G k (node (kind_of c) s) e
+    GoesOn S G x k (slice_index k (d + length p)) (Some (node (kind_of c) s)) × NodeSeen G k (node (kind_of c) s) e
 
 -- what r, seen at the prefix p and the children f, says of any tree in which they stand on the key's way;
 -- a contract holds no statement over all predicates, so this is over tests
