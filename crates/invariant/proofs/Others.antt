@@ -314,27 +314,27 @@ module _ {N : Numbers} {Key : List ℕ → Type 0} {σ : State} (law : Lawful N 
       go x (inr (a, b)) = ap (λ (t : Bool). status_of (cond t linked (cond (in_pool N x) spare outside))) a ∙ rest (in_pool N x) ∙ sym (choose_out x (root ∷ []) Status.linked Status.spare (λ i. ⊎_elim b (λ q. q) i))
 
   closed_seat : {P : Type 0} (s : ℕ) (o : Operation) → σ.seats s ≡ busy o → P
-  closed_seat s o e = let q = n.seats s in no_way cc
+  closed_seat s o e = let q = n.made.seats s in no_way cc
 
   words_new : words_of σ ≡ start_state
-  words_new = start_is (fun_ext n.words) (fun_ext (λ s. ap held_by (n.seats s))) n.calls
+  words_new = start_is (fun_ext n.made.words) (fun_ext (λ s. ap held_by (n.made.seats s))) n.made.calls
     where
       start_is : {f : Ref → Meaning} {h : ℕ → List Hold} {c : ℕ} → f ≡ (λ x. fresh) → h ≡ (λ i. []) → c ≡ 0 → record { words = f; held = h; accepted = c } ≡ start_state
       start_is p q r = cc
 
   pub start_kept : Queued σ (beginning N) → Inv N Key σ (beginning N)
   start_kept q = record {
-    tree = subst (λ (G : Ghost). TreeOk N.deep Key (Flux σ) σ.tree G) (sym first_same) (starts σ.tree law.deep law.not_empty n.children n.root_prefix);
+    tree = subst (λ (G : Ghost). TreeOk N.deep Key (Flux σ) σ.tree G) (sym first_same) (starts σ.tree law.deep law.not_empty n.children n.made.root_prefix);
     spelled = record { child_byte = λ x b y e. no_way (let z = n.children x b in cc); full_byte = λ x u b i l e. absurd (empty_snoc u b e) };
     closed' = λ x r b y e k. no_way (let z = n.children x b in cc);
     rootless = λ x r b e k. no_way (let z = n.children x b in cc);
     upto = λ x r e. absurd (first_retired x r (ap (λ (G : Ghost). G.st x) (sym first_same) ∙ e));
     words = subst (WordsOk N.limit) (sym words_new) (able N.limit).start;
-    places = λ x. subst (λ (m : Meaning). Suits (place_at (beginning N) x) m) (sym (n.words x)) (suits x);
+    places = λ x. subst (λ (m : Meaning). Suits (place_at (beginning N) x) m) (sym (n.made.words x)) (suits x);
     queued = q;
     seats = λ s o e. closed_seat s o e;
     calm = λ s o e. closed_seat s o e;
-    outside = λ s l. n.seats s;
+    outside = λ s l. n.made.seats s;
   }
     where
       empty_snoc : (u : List ℕ) (b : ℕ) → (u ++ b ∷ []) ≼ [] → ⊥

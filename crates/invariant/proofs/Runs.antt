@@ -17,7 +17,7 @@ use Rattle.model_slots.proofs.Promised as promised
 use Rattle.model_slots.proofs.Lists.{clear_same}
 use mathlib.Core.Path.{fun_ext}
 use Rattle.machine.specs.Calls.{Call, Reply, seat_of, Accepted, Fits, Did, started, begun_at}
-use Rattle.runs.specs.Runs as runs
+use Rattle.machine.specs.Runs as runs
 use Rattle.runs.specs.Runs.{New, Run}
 use Rattle.runs.specs.Happened.{happened, events, in_pool}
 use Rattle.runs.specs.Named.{row_names}

@@ -23,7 +23,8 @@ use Rattle.machine.specs.Items.{Pooled, Plain, Does}
 use Rattle.machine.specs.Choices.{key_byte, left, collapsing as collapsing', decided, begun}
 use Rattle.machine.specs.Steps.{after_take, pair_at, goes_back, picked, Refuses, Row, Follows, NoRoom}
 use Rattle.machine.specs.Calls.{Call, Reply, Fits, Turns, Swept, due, Did, begun_at}
-use Rattle.runs.specs.Runs.{Event, New, Run, rising, first_slot}
+use Rattle.machine.specs.Runs.{Event, rising, first_slot}
+use Rattle.runs.specs.Runs.{New, Run}
 use Rattle.runs.specs.Happened.{item_events, after_item, no_room_events, row_events, happened, events, in_pool}
 use Rattle.invariant.specs.Ghosts.{Ghosts}
 use Rattle.invariant.specs.Courses.{Solo, inserting, splitting, removing, Pair, growing, missing, collapsing, Acts}
@@ -222,19 +223,19 @@ elsewhere_none N x p h = sym (ap bit (ap (both (both (not (is x root)) (in_pool 
 -- each slot of a pool is spare at first, but the root
 module _ {N : Numbers} {σ : State} (n : New N σ) where
   in_leaves : (x : Ref) → count x (σ.spare 1) ≡ bit (both (both (not (is x root)) (in_pool N x)) (eqb (pool x) 1))
-  in_leaves (leaf k) = ap (count (leaf k)) n.leaves ∙ rising_once (leaf k) leaf k (leaf_is k) 0 (N.slots 1) ∙ ap bit (rw (leaf_not k whole 0) (within_first k (N.slots 1) ∙ sym (both_yes (ltb k (N.slots 1)))))
-  in_leaves (node c k) = ap (count (node c k)) n.leaves ∙ rising_none (node c k) leaf (node_not c k) 0 (N.slots 1) ∙ elsewhere_none N (node c k) 1 (λ q. leaf_room c (sym q))
+  in_leaves (leaf k) = ap (count (leaf k)) n.made.leaves ∙ rising_once (leaf k) leaf k (leaf_is k) 0 (N.slots 1) ∙ ap bit (rw (leaf_not k whole 0) (within_first k (N.slots 1) ∙ sym (both_yes (ltb k (N.slots 1)))))
+  in_leaves (node c k) = ap (count (node c k)) n.made.leaves ∙ rising_none (node c k) leaf (node_not c k) 0 (N.slots 1) ∙ elsewhere_none N (node c k) 1 (λ q. leaf_room c (sym q))
 
   in_nodes : (c : Kind) (x : Ref) → count x (σ.spare (room c)) ≡ bit (both (both (not (is x root)) (in_pool N x)) (eqb (pool x) (room c)))
-  in_nodes c (leaf k) = ap (count (leaf k)) (n.nodes c) ∙ rising_none (leaf k) (node c) (leaf_not k c) (first_slot c) (N.slots (room c)) ∙ elsewhere_none N (leaf k) (room c) (leaf_room c)
+  in_nodes c (leaf k) = ap (count (leaf k)) (n.made.nodes c) ∙ rising_none (leaf k) (node c) (leaf_not k c) (first_slot c) (N.slots (room c)) ∙ elsewhere_none N (leaf k) (room c) (leaf_room c)
   in_nodes c (node e k) = ⊎_elim
       (λ q. subst (λ (c : Kind). count (node e k) (σ.spare (room c)) ≡ bit (both (both (not (is (node e k) root)) (in_pool N (node e k))) (eqb (room e) (room c)))) q own)
-      (λ q. ap (count (node e k)) (n.nodes c) ∙ rising_none (node e k) (node c) (λ j. kind_not e c k j q.0) (first_slot c) (N.slots (room c))
+      (λ q. ap (count (node e k)) (n.made.nodes c) ∙ rising_none (node e k) (node c) (λ j. kind_not e c k j q.0) (first_slot c) (N.slots (room c))
       ∙ elsewhere_none N (node e k) (room c) (eqb-false (room e) (room c) q.1))
       (kinds e c)
     where
       own : count (node e k) (σ.spare (room e)) ≡ bit (both (both (not (is (node e k) root)) (in_pool N (node e k))) (eqb (room e) (room e)))
-      own = ap (count (node e k)) (n.nodes e) ∙ rising_once (node e k) (node e) k (node_is e k) (first_slot e) (N.slots (room e))
+      own = ap (count (node e k)) (n.made.nodes e) ∙ rising_once (node e k) (node e) k (node_is e k) (first_slot e) (N.slots (room e))
           ∙ ap bit (sym (ap (both (both (not (is (node e k) root)) (in_pool N (node e k)))) (eq-eqb (room e) (room e) refl) ∙ both_yes (both (not (is (node e k) root)) (in_pool N (node e k))) ∙ not_root N e k))
 
   spare_made : (x : Ref) (p : ℕ) → count x (σ.spare p) ≡ bit (both (both (not (is x root)) (in_pool N x)) (eqb (pool x) p))
@@ -242,7 +243,7 @@ module _ {N : Numbers} {σ : State} (n : New N σ) where
       (λ q. subst (λ (p : ℕ). count x (σ.spare p) ≡ bit (both (both (not (is x root)) (in_pool N x)) (eqb (pool x) p))) (sym q) (in_leaves x))
       (⊎_elim
       (λ q. subst (λ (p : ℕ). count x (σ.spare p) ≡ bit (both (both (not (is x root)) (in_pool N x)) (eqb (pool x) p))) (sym q.1) (in_nodes q.0 x))
-      (λ q. ap (count x) (n.no_pool p q) ∙ elsewhere_none N x p (q x)))
+      (λ q. ap (count x) (n.made.no_pool p q) ∙ elsewhere_none N x p (q x)))
       (pools p)
 
 -- a just made index
@@ -251,7 +252,7 @@ slots_made {N = N} {σ = σ} n = record {
   state = record { spare = σ.spare; retired = []; drawn = λ s. []; linked = λ x. is x root; epoch = 0; begun = λ s. None };
   run = slots.Run.made (record { linked = λ x. refl; spare = spare_made n; retired = refl; drawn = λ s. refl; epoch = refl; begun = λ s. refl });
   tells = refl;
-  agree = record { spare = λ p. refl; retired = sym n.retired; drawn = λ s. sym (ap drawn_by (n.seats s)); epoch = sym n.epoch; begun = λ s. sym (ap begun_at (n.seats s)) };
+  agree = record { spare = λ p. refl; retired = sym n.made.retired; drawn = λ s. sym (ap drawn_by (n.made.seats s)); epoch = sym n.made.epoch; begun = λ s. sym (ap begun_at (n.made.seats s)) };
 }
 
 -- a run of slots with these events

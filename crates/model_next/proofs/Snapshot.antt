@@ -10,7 +10,7 @@ use Rattle.keys.specs.Bytes.{First}
 use Rattle.model_next.specs.Bytes.{Compared, larger, smaller, ended, same, against}
 use Rattle.model_next.specs.Look.{Sight, stale, back, onward, aside, got, smallest, past, picks, picked, keyed, key_sight, back_sight, down_sight, Hold, taken, Saw, SawDown, Led}
 use Rattle.model_next.specs.Next.{NextOf, pair_of, Past, Trail, SoundNow, Snapshot}
-use Rattle.model_next.specs.Walk.{look_key, look_back, look_down, on, newest, place, hold, Links, DownLinks, Seen}
+use Rattle.model_next.specs.Walk.{take_key, take_down, look_key, look_back, look_down, on, newest, place, hold, Links, DownLinks, Seen}
 use Rattle.model_next.specs.Laws.{Best}
 use Rattle.model.proofs.Bytes.{none_some, ≼_app, ≼_trans, ≼_or, snoc_len}
 use Rattle.model.proofs.Reach
@@ -460,6 +460,117 @@ module _ {deep : ℕ} {Key : List ℕ → Type 0} {flux : Ref → Type 0} {S : T
         fresh_look_down f g hs ds n w o os od =
             let d : OnDown g = aside_on f hs n g (root_on' f w.0 o) (subst (Saw deep S k Ok (f ∷ hs) n) w.1.2.0 w.1.1) o os od.0 in
             fresh_down (newest g ds) (newest_down g ds d w.1.2.1 od.0 od.1)
+
+        -- with every permit sound, all nodes of the key's way stand on it
+        keys_on : (h : Hold) (hs : List Hold) (n : ℕ) (s : Sight) → OnKey h → Saw deep S k Ok (h ∷ hs) n s → Ok h → AllByRecursion Ok hs → AllByRecursion OnKey (h ∷ hs)
+        keys_on h [] zero s k' w o os = (k', tt)
+        keys_on h [] (suc n) s k' w o os = absurd w
+        keys_on h (g ∷ hs) zero s k' w o os = (k', keys_on g hs zero back (next_on h g k' (w.0 o) os.0) w.1 os.0 os.1)
+        keys_on h (g ∷ hs) (suc n) s k' w o os = (k', keys_on g hs n s (next_on h g k' (w.0 o) os.0) w.1 os.0 os.1)
+
+        -- a node to be taken: it is linked, and its depth is that of its path
+        abbrev Aim : Ref → ℕ → Type 0
+        Aim y e = Linked G y × (e ≡ length (G.path y))
+
+        -- the key's way leads on to y
+        led_on : (h : Hold) (hs : List Hold) (y : Ref) (e : ℕ) → OnKey h → Saw deep S k Ok (h ∷ hs) (length hs) (onward y e) → Ok h → AllByRecursion Ok hs → Aim y e
+        led_on h [] y e k' w o os =
+            let g : Hold = hold y e in
+            let q = onwards h g k' (key_view S k h.ref h.depth (onward y e) deep (w o) (onward_fresh y e)) in
+            (q.linked, at_depth h g q)
+        led_on h (g ∷ hs) y e k' w o os = led_on g hs y e (next_on h g k' (w.0 o) os.0) w.1 os.0 os.1
+
+        -- a child that is picked
+        picked_aim : (h : Hold) (c : ℕ) (y z : Ref) (e : ℕ) → Linked G h.ref → h.depth ≡ length (G.path h.ref) → G.path h.ref ++ prefix S h.ref ≡ G.full h.ref
+            → child S h.ref c ≡ Some y → picks y (suc (h.depth + length (prefix S h.ref))) ≡ aside z e → Aim z e × (G.path z ≡ G.full h.ref ++ c ∷ [])
+        picked_aim h c y z e l d w f q =
+            let i = picks_aside y _ z e q in
+            let j = picks_depth y _ z e q in
+            let m = t.kid h.ref c z l (f ∙ ap Some i.0) in
+            let n : length (G.path z) ≡ suc (length (G.full h.ref)) = ap length m.1 ∙ snoc_len (G.full h.ref) c in
+            ((m.0, omega (arith, j, n, d, length-append (G.path h.ref) (prefix S h.ref), ap length w)), m.1)
+
+        -- off the key's way
+        abbrev Off : Ref → ℕ → Type 0
+        Off y e = Aim y e × (G.path y ≼ k → ⊥)
+
+        past_off : (h : Hold) (b : ℕ) (y : Ref) (e : ℕ) (o : Option (ℕ × Ref)) → OnKey h → G.full h.ref ++ b ∷ [] ≼ k → past S h.ref b ≡ o
+            → picked o (suc (h.depth + length (prefix S h.ref))) back ≡ aside y e → Off y e
+        past_off h b y e None k' g f q = let z : ◌≡◌ {A = ℕ} 0 1 = cc q in absurd (omega arith)
+        past_off h b y e (Some (c, z)) k' g f q =
+            let v = past_some S h.ref b c z f in
+            let a = picked_aim h c z y e k'.linked k'.depth k'.whole v.0 q in
+            (a.0, λ p. omega (arith, v.1, byte_at (G.full h.ref) k b g, byte_at (G.full h.ref) k c (subst (λ (u : List ℕ). u ≼ k) a.1 p)))
+
+        key_off : (h : Hold) (y : Ref) (e : ℕ) → OnKey h → KeyView S k h.ref h.depth (aside y e) → Off y e
+        key_off h y e k' (KeyView.above c z a p q) =
+            let m = picked_aim h c z y e k'.linked k'.depth k'.whole (smallest_some S h.ref c z p).0 q in (
+              m.0,
+              λ f.
+                  let r : List ℕ = drop (length (G.path h.ref)) k in
+                  let i : G.full h.ref ≼ k = ≼_trans (G.full h.ref) (G.full h.ref ++ c ∷ []) k (≼_app (G.full h.ref) (c ∷ [])) (subst (λ (u : List ℕ). u ≼ k) m.1 f) in
+                  let j = begins_drop (G.path h.ref) (prefix S h.ref) k (subst (λ (u : List ℕ). u ≼ k) (sym k'.whole) i) in
+                  first_not r (larger_first (prefix S h.ref) r r (subst (λ (n : ℕ). against (prefix S h.ref) (drop n k) ≡ larger) k'.depth a) j),
+            )
+        key_off h y e k' (KeyView.lower a q) = let z : ◌≡◌ {A = ℕ} 0 1 = cc q in absurd (omega arith)
+        key_off h y e k' (KeyView.beside b a u q) = past_off h b y e (past S h.ref b) k' (at_byte h b k' a) refl q
+        key_off h y e k' (KeyView.at b i a f g q) = let z : ◌≡◌ {A = ℕ} 0 1 = cc q in absurd (omega arith)
+        key_off h y e k' (KeyView.on b z a f n q) = let z : ◌≡◌ {A = ℕ} 0 1 = cc q in absurd (omega arith)
+
+        saw_off : (h : Hold) (hs : List Hold) (n : ℕ) (y : Ref) (e : ℕ) → OnKey h → Saw deep S k Ok (h ∷ hs) n (aside y e) → Ok h → AllByRecursion Ok hs → Off y e
+        saw_off h [] zero y e k' w o os = key_off h y e k' (key_view S k h.ref h.depth (aside y e) deep (w o) (aside_fresh y e))
+        saw_off h [] (suc n) y e k' w o os = absurd w
+        saw_off h (g ∷ hs) zero y e k' w o os =
+            let q = onwards h g k' (key_view S k h.ref h.depth _ deep (w.0 o) (onward_fresh g.ref g.depth)) in
+            past_off h q.byte y e (past S h.ref q.byte) k' q.goes refl
+            (back_view deep S q.byte h.ref h.depth (aside y e) (subst (λ (b : ℕ). back_sight deep S b h.ref h.depth ≡ aside y e) (byte_taken h g q) (w.2 o)) (aside_fresh y e))
+        saw_off h (g ∷ hs) (suc n) y e k' w o os = saw_off g hs n y e (next_on h g k' (w.0 o) os.0) w.1 os.0 os.1
+
+        -- the way down leads to y
+        down_off : (h : Hold) (hs : List Hold) (y : Ref) (e : ℕ) → OnDown h → (G.path h.ref ≼ k → ⊥) → SawDown deep S Ok h hs (aside y e) → Ok h → AllByRecursion Ok hs → Off y e × AllByRecursion OnDown (h ∷ hs)
+        down_off h [] y e k' f w o os =
+            let v = down_view deep S h.ref h.depth (aside y e) (w o) (aside_fresh y e) in
+            let a = picked_aim h v.0 v.1 y e k'.linked k'.depth k'.whole (smallest_some S h.ref v.0 v.1 v.2).0 v.3 in
+            ((a.0, λ p. f (up h.ref v.0 k k'.is_node k'.linked (subst (λ (u : List ℕ). u ≼ k) a.1 p))), (k', tt))
+        down_off h (g ∷ hs) y e k' f w o os =
+            let v = down_view deep S h.ref h.depth _ (w.0 o) (aside_fresh g.ref g.depth) in
+            let c = (smallest_some S h.ref v.0 v.1 v.2).0 in
+            let a = picked_aim h v.0 v.1 g.ref g.depth k'.linked k'.depth k'.whole c v.3 in
+            let r = down_off g hs y e (stands_down h g v.0 v.1 k'.linked k'.depth k'.whole c v.3 os.0)
+            (λ p. f (up h.ref v.0 k k'.is_node k'.linked (subst (λ (u : List ℕ). u ≼ k) a.1 p))) w.1 os.0 os.1 in
+            (r.0, (k', r.1))
+
+        -- what is less deep, or on the key's way where y is not, is elsewhere
+        less_deep : (P : Hold → Type 0) → ((h : Hold) → P h → h.depth ≡ length (G.path h.ref)) → (y : Ref) (d : ℕ) → d ≡ length (G.path y) → (hs : List Hold) → AllByRecursion P hs → AllByRecursion (λ h. h.depth < d) hs → AllByRecursion (λ h. h.ref ≡ y → ⊥) hs
+        less_deep P f y d e [] a b = tt
+        less_deep P f y d e (h ∷ hs) a b = (
+          (λ q. let z : length (G.path h.ref) ≡ length (G.path y) = ap (λ (x : Ref). length (G.path x)) q in omega (arith, z, e, b.0, f h a.0)),
+          less_deep P f y d e hs a.1 b.1,
+        )
+
+        off_apart : (y : Ref) → (G.path y ≼ k → ⊥) → (hs : List Hold) → AllByRecursion OnKey hs → AllByRecursion (λ h. h.ref ≡ y → ⊥) hs
+        off_apart y f [] a = tt
+        off_apart y f (h ∷ hs) a = ((λ q. f (subst (λ (x : Ref). G.path x ≼ k) q a.0.begins)), off_apart y f hs a.1)
+
+        -- with every permit sound, the node to be taken is linked, and differs from those that are held
+        pub free_key : (f : Hold) (hs : List Hold) (y : Ref) (d : ℕ) → Seen deep S k Ok (on f hs [] (take_key y d)) → Ok f → AllByRecursion Ok hs → AllByRecursion (λ h. h.depth < d) (f ∷ hs)
+            → Linked G y × AllByRecursion (λ h. h.ref ≡ y → ⊥) (f ∷ hs)
+        free_key f hs y d w o os b =
+            let r = root_on' f w.0 o in
+            let a = led_on f hs y d r w.1 o os in
+            (a.0, less_deep OnKey (λ h k'. k'.depth) y d a.1 (f ∷ hs) (keys_on f hs (length hs) (onward y d) r w.1 o os) b)
+
+        pub free_down : (f : Hold) (hs ds : List Hold) (n : ℕ) (y : Ref) (d : ℕ) → Seen deep S k Ok (on f hs ds (take_down n y d)) → Ok f → AllByRecursion Ok hs → AllByRecursion Ok ds → AllByRecursion (λ h. h.depth < d) ds
+            → Linked G y × AllByRecursion (λ h. h.ref ≡ y → ⊥) (f ∷ hs) × AllByRecursion (λ h. h.ref ≡ y → ⊥) ds
+        free_down f hs [] n y d w o os od b =
+            let r = root_on' f w.0 o in
+            let a = saw_off f hs n y d r (subst (Saw deep S k Ok (f ∷ hs) n) w.1.2 w.1.1) o os in
+            (a.0.0, off_apart y a.1 (f ∷ hs) (keys_on f hs n w.1.0 r w.1.1 o os), tt)
+        free_down f hs (g ∷ ds) n y d w o os od b =
+            let r = root_on' f w.0 o in
+            let q = subst (Saw deep S k Ok (f ∷ hs) n) w.1.2.0 w.1.1 in
+            let a = down_off g ds y d (aside_on f hs n g r q o os od.0) (saw_off f hs n g.ref g.depth r q o os).1 w.1.2.1 od.0 od.1 in
+            (a.0.0.0, off_apart y a.0.1 (f ∷ hs) (keys_on f hs n w.1.0 r w.1.1 o os), less_deep OnDown (λ h k'. k'.depth) y d a.0.0.1 (g ∷ ds) a.1 b)
 
   -- the answer among all linked leaves is the map's
   all : (k : List ℕ) (r : Option ℕ) → Answer S G k [] r → NextOf (Holds S G) k (pair_of S r)

@@ -26,7 +26,8 @@ use Rattle.machine.specs.State.{State, Numbers, WordsAre, with, Restarts, Ends}
 use Rattle.machine.specs.Items.{check_by, Does}
 use Rattle.machine.specs.Steps.{is_next, after_take, pair_at, goes_back, picked, Follows, Row}
 use Rattle.machine.specs.Calls.{Call, Reply, came, started, Turns, Did}
-use Rattle.runs.specs.Runs.{Event, New, Run, history}
+use Rattle.machine.specs.Runs.{Event}
+use Rattle.runs.specs.Runs.{New, Run, history}
 use Rattle.runs.specs.Told.{Told, shut, free, asked, told, Agrees}
 use Rattle.runs.specs.Named.{Feed, Names, nothing, itself, first_check, item_names, row_names, is_first_check, checks_first, feed, named_by, checked_at, named}
 use Rattle.runs.proofs.Telling.{histories_tell_lem}
@@ -445,7 +446,7 @@ module _ {K : Type 0} {N : Numbers} {accepts : K → Type 0} {bytes : K → List
     empty = λ k. refl;
     each = λ t l. absurd (omega (arith, l));
     now = λ k v. ((λ e. absurd (none_some e)), (λ (i, l, x, y). let (p, b, q, c) = g.inv.tree.parent (leaf i) l (λ e. no_way cc) in absurd (none_some (sym (n.children p b) ∙ c))));
-    scanning = λ s o i a e t q. let x = n.seats s in no_way cc;
+    scanning = λ s o i a e t q. let x = n.made.seats s in no_way cc;
   }
 
   module _ (law : Lawful N (KeyOf accepts bytes)) where

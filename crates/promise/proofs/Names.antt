@@ -17,8 +17,10 @@ use Rattle.machine.specs.Choices.{decided, begun, left, key_byte}
 use Rattle.machine.specs.Items.{Does, Plain}
 use Rattle.machine.specs.Steps.{Row, Refuses, Follows, picked}
 use Rattle.machine.specs.Calls.{Call, Reply, ok, came, swept, refused, Accepted, Turns, started, Did}
-use Rattle.runs.specs.Runs.{Event, Run, history}
-use Rattle.runs.specs.Told.{Told, shut, free, asked, again_asked, stepped, turned, sweeps_of, told, Agrees}
+use Rattle.machine.specs.Runs.{Event}
+use Rattle.machine.specs.Told.{sweeps_of}
+use Rattle.runs.specs.Runs.{Run, history}
+use Rattle.runs.specs.Told.{Told, shut, free, asked, again_asked, stepped, turned, told, Agrees}
 use Rattle.runs.specs.Named.{Feed, Names, nothing, itself, first_check, item_names, row_names, is_first_check, feed, named_by, checked_at, named}
 use Rattle.runs.proofs.Telling.{histories_tell_lem}
 use Rattle.invariant.specs.Ghosts.{Ghosts}

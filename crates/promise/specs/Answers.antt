@@ -3,7 +3,8 @@ use Rattle.std.specs.Prelude.{◌≡◌, ℕ, suc, ◌≤◌, List, ◌∷◌, �
 use Rattle.model.specs.Operations.{Task, Answer, Outcome, answers}
 use Rattle.machine.specs.State.{State, Numbers}
 use Rattle.machine.specs.Calls.{Call, came}
-use Rattle.runs.specs.Runs.{Event, Run, history}
+use Rattle.machine.specs.Runs.{Event}
+use Rattle.runs.specs.Runs.{Run, history}
 use Rattle.runs.specs.Told.{asked, told}
 use Rattle.promise.specs.Map.{Map, Empty, Fed}
 use Rattle.runs.specs.Named.{Feed, named}

@@ -2,7 +2,8 @@
 use Rattle.std.specs.Prelude.{◌≡◌, ℕ, List, Some}
 use Rattle.machine.specs.State.{State, Numbers}
 use Rattle.machine.specs.Calls.{Did}
-use Rattle.runs.specs.Runs.{Event, Run}
+use Rattle.machine.specs.Runs.{Event}
+use Rattle.runs.specs.Runs.{Run}
 use Rattle.promise.specs.Answers.{Answered}
 use Rattle.runs.specs.Named.{Feed, named}
 use Rattle.promise.specs.Slots.{Slotted}

@@ -10,7 +10,8 @@ use Rattle.machine.specs.State.{State, Numbers}
 use Rattle.machine.specs.Items.{Does}
 use Rattle.machine.specs.Steps.{NoRoom, Follows, Row}
 use Rattle.machine.specs.Calls.{Call, Reply, Did}
-use Rattle.runs.specs.Runs.{Run, first_slot}
+use Rattle.machine.specs.Runs.{first_slot}
+use Rattle.runs.specs.Runs.{Run}
 
 -- what an item of a seat's course does to slots, the last first
 abbrev pub item_events : {N : Numbers} {σ τ : State} {o : Operation} {c : Course} {a : Item} {d d' : Option op.Drawn} {f : Ref → Meaning} {hs : List Hold} → ℕ → Does N σ τ o c a d f hs d' → List Event

@@ -1,41 +1,16 @@
--- Runs from a just made index, and what is told by their history.
-use Rattle.std.specs.Prelude.{◌≡◌, ℕ, zero, suc, List, [], ◌∷◌, None, ◌≢◌}
-use Rattle.latches.specs.Rules.{fresh}
-use Rattle.model.specs.Refs.{Kind, four, sixteen, forty_eight, whole, room, Ref, leaf, node, root, pool}
-use Rattle.model.specs.Tree.{child, prefix}
-use Rattle.model.specs.Operations.{closed}
-use Rattle.machine.specs.State.{State, Numbers, WordsAre}
-use Rattle.machine.specs.Calls.{Call, Reply, Did}
+-- Runs from a just made index none of whose nodes has a child.
+use Rattle.std.specs.Prelude.{◌≡◌, ℕ, List, [], ◌∷◌, None}
+use Rattle.model.specs.Refs.{Ref}
+use Rattle.model.specs.Tree.{child}
+use Rattle.machine.specs.State.{State, Numbers}
+use Rattle.machine.specs.Runs as machine
+use Rattle.machine.specs.Runs.{Event}
+use Rattle.machine.specs.Calls.{Did}
 
--- so many slots, rising
-abbrev pub rising : (ℕ → Ref) → ℕ → ℕ → List Ref
-rising f i zero = []
-rising f i (suc n) = f i ∷ rising f (suc i) n
-
--- the first slot of a kind's pool: the root stands before its own
-abbrev pub first_slot : Kind → ℕ
-first_slot four = 0
-first_slot sixteen = 0
-first_slot forty_eight = 0
-first_slot whole = 1
-
--- a just made index: no node has a child, every slot of a pool is spare
+-- just made, and no node has a child, linked or not
 pub record New (N : Numbers) (σ : State) : Type 0 where
-  pub root_prefix : prefix σ.tree root ≡ []
+  pub made : machine.New N σ
   pub children : (x : Ref) (b : ℕ) → child σ.tree x b ≡ None
-  pub words : WordsAre (λ x. fresh) σ
-  pub leaves : σ.spare (pool (leaf 0)) ≡ rising leaf 0 (N.slots (pool (leaf 0)))
-  pub nodes : (k : Kind) → σ.spare (room k) ≡ rising (node k) (first_slot k) (N.slots (room k))
-  pub no_pool : (q : ℕ) → ((x : Ref) → pool x ≢ q) → σ.spare q ≡ []
-  pub retired : σ.retired ≡ []
-  pub epoch : σ.epoch ≡ 0
-  pub calls : σ.calls ≡ 0
-  pub seats : (s : ℕ) → σ.seats s ≡ closed
-
--- a call with what it returned
-pub record Event (K : Type 0) : Type 0 where
-  pub call : Call K
-  pub reply : Reply
 
 pub data Run {K : Type 0} (N : Numbers) (accepts : K → Type 0) (bytes : K → List ℕ) : State → Type 0 where
   made : {σ : State} → New N σ → Run N accepts bytes σ

@@ -1,32 +1,12 @@
 -- What the history of a run tells of calls, epoch and seats.
-use Rattle.std.specs.Prelude.{◌≡◌, ℕ, suc, ◌≤◌, cond, List, [], ◌∷◌, length, ◌==◌}
-use Rattle.terms.specs.Limits.{seat_count, call_limit}
-use Rattle.model.specs.Operations.{Task, Operation, Seat, closed, idle, busy, Outcome, go, again, answers}
+use Rattle.std.specs.Prelude.{ℕ, suc, cond, List, [], ◌∷◌, length, ◌==◌}
+use Rattle.model.specs.Operations.{Task, Seat, Outcome, go, again, answers}
 use Rattle.machine.specs.State.{State, Numbers}
 use Rattle.machine.specs.Calls.{Call, Reply, ok, came, swept, refused}
-use Rattle.runs.specs.Runs.{Event, Run, history}
-
--- one accepted call more, or one sweep more, where the reply says so
-abbrev pub plus_call : Reply → ℕ → ℕ
-plus_call ok n = suc n
-plus_call (came r) n = suc n
-plus_call (swept m) n = suc n
-plus_call (refused e) n = n
-
-abbrev pub plus_sweep : Reply → ℕ → ℕ
-plus_sweep ok n = n
-plus_sweep (came r) n = n
-plus_sweep (swept m) n = suc n
-plus_sweep (refused e) n = n
-
--- how many calls were accepted, and how many of them were sweeps
-abbrev pub accepted : {K : Type 0} → List (Event K) → ℕ
-accepted [] = 0
-accepted (e ∷ h) = plus_call e.reply (accepted h)
-
-abbrev pub sweeps_of : {K : Type 0} → List (Event K) → ℕ
-sweeps_of [] = 0
-sweeps_of (e ∷ h) = plus_sweep e.reply (sweeps_of h)
+use Rattle.machine.specs.Runs.{Event}
+use Rattle.machine.specs.Told as machine
+use Rattle.machine.specs.Told.{sweeps_of}
+use Rattle.runs.specs.Runs.{Run, history}
 
 -- a seat is closed, idle, or busy with what it was asked, how many calls and how many sweeps came before, and how often
 -- it started again
@@ -69,27 +49,19 @@ abbrev pub told : {K : Type 0} → List (Event K) → ℕ → Told K
 told [] s = shut
 told (e ∷ h) s = turned e.call e.reply (length h) (sweeps_of h) s (told h s)
 
--- a seat with the operation that it was asked for
-pub record Asks {K : Type 0} (accepts : K → Type 0) (bytes : K → List ℕ) (t : Task) (k : K) (e n : ℕ) (z : Seat) : Type 0 where
-  pub operation : Operation
-  pub seat : z ≡ busy operation
-  pub accepted : accepts k
-  pub task : operation.task ≡ t
-  pub key : operation.key ≡ bytes k
-  pub begun : operation.begun ≡ e
-  pub restarts : operation.restarts ≡ n
+-- without the count of calls before its begin
+abbrev pub plain : {K : Type 0} → Told K → machine.Told K
+plain shut = machine.shut
+plain free = machine.free
+plain (asked t k b e n) = machine.asked t k e n
 
 abbrev pub Agrees : {K : Type 0} → (K → Type 0) → (K → List ℕ) → Told K → Seat → Type 0
-Agrees accepts bytes shut z = z ≡ closed
-Agrees accepts bytes free z = z ≡ idle
-Agrees accepts bytes (asked t k b e n) z = Asks accepts bytes t k e n z
+Agrees accepts bytes w z = machine.Agrees accepts bytes (plain w) z
 
+-- what a history of the machine tells, and each seat with the count of calls before its begin
 pub record Tells {K : Type 0} (accepts : K → Type 0) (bytes : K → List ℕ) (h : List (Event K)) (σ : State) : Type 0 where
-  pub calls : σ.calls ≡ accepted h
-  pub limit : accepted h ≤ call_limit
-  pub epoch : σ.epoch ≡ sweeps_of h
+  pub machine_tells : machine.Tells accepts bytes h σ
   pub seats : (s : ℕ) → Agrees accepts bytes (told h s) (σ.seats s)
-  pub outside : (s : ℕ) → seat_count ≤ s → σ.seats s ≡ closed
 
 abbrev pub HistoriesTell : {K : Type 0} → (K → Type 0) → (K → List ℕ) → Type 0
 HistoriesTell accepts bytes = (N : Numbers) (σ : State) (r : Run N accepts bytes σ) → Tells accepts bytes (history r) σ

@@ -1,8 +1,9 @@
 -- The laws, from their parts.
-use Rattle.std.proofs.Common.{◌≡◌, ℕ, zero, suc, ◌<◌, Bool, true, false, T, ◌⊎◌, List, [], ◌∷◌, ◌++◌, length, get_or, sym, refl, ap, ◌∙◌, subst, inl, inr, ⊎_elim, arith}
+use Rattle.std.proofs.Common.{◌≡◌, ℕ, suc, Bool, true, false, T, ◌⊎◌, List, [], ◌∷◌, ◌++◌, get_or, sym, refl, ap, ◌∙◌, subst, inl, inr, ⊎_elim, arith}
 use Rattle.std.proofs.lemmas.Bool.{cases_eq}
 use Rattle.std.specs.List.{AllByRecursion}
 use Rattle.model.specs.Holds.{Hold}
+use Rattle.model_next.proofs.Laws.{split_all, any_default, all_at, not_true, turned}
 use Rattle.walks.specs.Look.{taken}
 use Rattle.walks.specs.Walk.{place}
 use Rattle.walks.specs.Laws.{Bad, WalkLaws, FreshLaws}
@@ -18,28 +19,6 @@ sound_or ok (h ∷ hs) = go (ok h) refl (sound_or ok hs)
     go true e (inl a) = inl (subst T (sym e) tt, a)
     go true e (inr (j, g, l, m, i, f)) = inr (suc j, g, omega arith, omega arith, i, f)
     go false e r = inr (0, h, omega arith, omega arith, refl, e)
-
-split_all : (P : Hold → Type 0) (hs ds : List Hold) → AllByRecursion P (hs ++ ds) → AllByRecursion P hs × AllByRecursion P ds
-split_all P [] ds a = (tt, a)
-split_all P (h ∷ hs) ds a = let r = split_all P hs ds a.1 in ((a.0, r.0), r.1)
-
-any_default : (hs : List Hold) (j : ℕ) (g h : Hold) → j < length hs → get_or hs j g ≡ get_or hs j h
-any_default [] j g h l = absurd (omega arith)
-any_default (x ∷ hs) zero g h l = refl
-any_default (x ∷ hs) (suc j) g h l = any_default hs j g h (omega arith)
-
-all_at : (P : Hold → Type 0) (hs : List Hold) (j : ℕ) (h : Hold) → AllByRecursion P hs → j < length hs → h ≡ get_or hs j h → P h
-all_at P [] j h a l e = absurd (omega arith)
-all_at P (x ∷ hs) zero h a l e = subst P (sym e) a.0
-all_at P (x ∷ hs) (suc j) h a l e = all_at P hs j h a.1 (omega arith) e
-
-not_true : (b : Bool) → T b → b ≡ false → ⊥
-not_true true t e = let z : ◌≡◌ {A = ℕ} 0 1 = cc e in omega arith
-not_true false t e = t
-
-turned : (b c : Bool) → (T c → T b) → b ≡ false → c ≡ false
-turned b true f e = absurd (not_true b (f tt) e)
-turned b false f e = refl
 
 pub walk_stands : WalkLaws
 walk_stands = record {

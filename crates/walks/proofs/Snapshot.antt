@@ -1,594 +1,137 @@
--- With every permit sound at one time, what `next` has in hand is the first pair not below its key.
-use Rattle.std.proofs.Common.{◌≡◌, ℕ, zero, suc, ◌+◌, ◌-◌, ◌<◌, ◌≤◌, Bool, false, cond, T, leb, List, [], ◌∷◌, ◌++◌, length, get_or, drop, Some, None, Option, sym, refl, ap, ◌∙◌, subst, inl, ⊎_elim, arith, length-append}
-use Rattle.std.proofs.lemmas.Bool.{cases_order, lt-leb}
+-- With every permit sound at one time, nodes held with their permits show what nodes held show.
+use Rattle.std.proofs.Common.{◌≡◌, ℕ, zero, suc, ◌<◌, List, [], ◌∷◌, Some, None, Option, T, length, map, sym, ap₂, refl, subst}
+use Rattle.std.proofs.lemmas.List.{length-map}
 use Rattle.std.specs.List.{AllByRecursion}
-use Rattle.model.specs.Bytes.{◌≼◌}
-use Rattle.model.specs.Holds.{Grip, Hold}
-use Rattle.model.specs.Refs.{Ref, root, IsNode}
-use Rattle.model.specs.Tree.{Tree, child, prefix, Ghost, Linked, TreeOk, Holds}
-use Rattle.model.specs.Refs.Ref.{leaf, node}
-use Rattle.keys.specs.Bytes.{First}
-use Rattle.model_next.specs.Bytes.{Compared, larger, smaller, ended, same, against}
-use Rattle.model_next.specs.Look.{Sight, stale, back, onward, aside, got, smallest, past, picks, picked, keyed, key_sight, back_sight, down_sight}
-use Rattle.walks.specs.Look.{taken, Saw, SawDown, Led}
-use Rattle.model_next.specs.Next.{NextOf, pair_of, Past}
+use Rattle.model.specs.Holds.{Hold}
+use Rattle.model.specs.Refs.{Ref, root}
+use Rattle.model.specs.Tree.{Tree, Ghost, Linked, TreeOk, Holds}
+use Rattle.model_next.specs.Look as bare
+use Rattle.model_next.specs.Look.{Sight, stale, back, onward, aside, got, key_sight, back_sight, down_sight}
+use Rattle.model_next.specs.Next.{NextOf, pair_of}
+use Rattle.model_next.specs.Walk as bare_walk
+use Rattle.model_next.specs.Walk.{take_key, take_down, look_key, look_back, look_down}
+use Rattle.model_next.proofs.Snapshot as bare_snapshot
+use Rattle.model_next.proofs.Snapshot.{Bytewise}
+use Rattle.walks.specs.Look.{Saw, SawDown, Led}
 use Rattle.walks.specs.Next.{Trail, SoundNow, Snapshot}
-use Rattle.walks.specs.Walk.{take_key, take_down, look_key, look_back, look_down, on, hold, newest, place, AtRoot, Links, DownLinks, Seen}
-use Rattle.model_next.specs.Laws.{Best}
-use Rattle.model.proofs.Bytes.{none_some, ≼_app, ≼_trans, ≼_or, snoc_len}
-use Rattle.model.proofs.Reach
-use Rattle.model_next.proofs.Order.{first_not, first_asym, first_behind, begins_drop, drop_begins, fork, byte_at, larger_first, smaller_first, same_begins, ended_begins, begins_behind, nil_not_larger}
-use Rattle.model_next.proofs.Views.{smallest_some, past_some, past_none, picks_got, picks_aside, down_view, back_view, Unfit, KeyView, key_view, picks_not, picked_not, picks_depth, back_fresh, smallest_fresh, under_fresh, has_smallest}
+use Rattle.walks.specs.Walk.{on, newest, place, AtRoot, Links, DownLinks, Seen}
 
--- the smallest of them that is not below k
-pub record Fit (S : Tree) (G : Ghost) (k u : List ℕ) (i : ℕ) : Type 0 where
-  pub linked : Linked G (leaf i)
-  pub under : u ≼ (S.entries i).key
-  pub from : First (S.entries i).key k → ⊥
-  pub least : (j : ℕ) → Linked G (leaf j) → u ≼ (S.entries j).key → (First (S.entries j).key k → ⊥) → First (S.entries j).key (S.entries i).key → ⊥
+-- a node held, without its permit
+abbrev bared : Hold → bare.Hold
+bared h = record { ref = h.at; depth = h.depth }
 
--- the answer among the linked leaves whose keys begin with u
-abbrev pub Answer : Tree → Ghost → List ℕ → List ℕ → Option ℕ → Type 0
-Answer S G k u None = (j : ℕ) → Linked G (leaf j) → u ≼ (S.entries j).key → First (S.entries j).key k
-Answer S G k u (Some i) = Fit S G k u i
+bared_root : (f : Hold) → AtRoot f → bared f ≡ bare_walk.hold root 0
+bared_root f e = ap₂ bare_walk.hold e.0 e.1
 
-abbrev pub Bytewise : (List ℕ → Type 0) → Type 0
-Bytewise Key = (a : List ℕ) → Key a → (j : ℕ) → get_or a j 0 < 256
+newest_bared : (h : Hold) (hs : List Hold) → bare_walk.newest (bared h) (map bared hs) ≡ bared (newest h hs)
+newest_bared h [] = refl
+newest_bared h (g ∷ hs) = newest_bared g hs
+
+place_bared : (h : Hold) (hs : List Hold) (n : ℕ) → bare_walk.place (bared h) (map bared hs) n ≡ bared (place h hs n)
+place_bared h [] zero = refl
+place_bared h (g ∷ hs) zero = refl
+place_bared h [] (suc n) = refl
+place_bared h (g ∷ hs) (suc n) = place_bared g hs n
+
+all_bared : (P : bare.Hold → Type 0) (hs : List Hold) → AllByRecursion (λ h. P (bared h)) hs → AllByRecursion P (map bared hs)
+all_bared P [] a = tt
+all_bared P (h ∷ hs) a = (a.0, all_bared P hs a.1)
+
+all_held : (P : bare.Hold → Type 0) (hs : List Hold) → AllByRecursion P (map bared hs) → AllByRecursion (λ h. P (bared h)) hs
+all_held P [] a = tt
+all_held P (h ∷ hs) a = (a.0, all_held P hs a.1)
+
+module _ (deep : ℕ) (S : Tree) (k : List ℕ) (Ok : Hold → Type 0) (Free : bare.Hold → Type 0) where
+  saw_bared : (hs : List Hold) (n : ℕ) (s : Sight) → Saw deep S k Ok hs n s → AllByRecursion Ok hs → bare.Saw deep S k Free (map bared hs) n s
+  saw_bared [] n s w o = absurd w
+  saw_bared (h ∷ []) zero s w o = λ f. w o.0
+  saw_bared (h ∷ []) (suc n) s w o = absurd w
+  saw_bared (h ∷ g ∷ hs) zero s w o = ((λ f. w.0 o.0), saw_bared (g ∷ hs) zero back w.1 o.1, (λ f. w.2 o.0))
+  saw_bared (h ∷ g ∷ hs) (suc n) s w o = ((λ f. w.0 o.0), saw_bared (g ∷ hs) n s w.1 o.1)
+
+  saw_down_bared : (h : Hold) (hs : List Hold) (s : Sight) → SawDown deep S Ok h hs s → Ok h → AllByRecursion Ok hs → bare.SawDown deep S Free (bared h) (map bared hs) s
+  saw_down_bared h [] s w o os = λ f. w o
+  saw_down_bared h (g ∷ hs) s w o os = ((λ f. w.0 o), saw_down_bared g hs s w.1 os.0 os.1)
+
+  led_bared : (s : Sight) (hs : List Hold) (r : Option ℕ) → Led deep S Ok s hs r → AllByRecursion Ok hs → bare.Led deep S Free s (map bared hs) r
+  led_bared s [] None w o = w
+  led_bared s [] (Some i) w o = w
+  led_bared s (h ∷ hs) None w o = absurd w
+  led_bared s (h ∷ hs) (Some i) w o = (w.0, saw_down_bared h hs (got i) w.1 o.0 o.1)
+
+  links_bared : (h : Hold) (hs : List Hold) → Links deep S k Ok h hs → Ok h → AllByRecursion Ok hs → bare_walk.Links deep S k Free (bared h) (map bared hs)
+  links_bared h [] w o os = tt
+  links_bared h (g ∷ hs) w o os = ((λ f. w.0 o), links_bared g hs w.1 os.0 os.1)
+
+  down_links_bared : (h : Hold) (hs : List Hold) → DownLinks deep S k Ok h hs → Ok h → AllByRecursion Ok hs → bare_walk.DownLinks deep S k Free (bared h) (map bared hs)
+  down_links_bared h [] w o os = tt
+  down_links_bared h (g ∷ hs) w o os = ((λ f. w.0 o), down_links_bared g hs w.1 os.0 os.1)
 
 module _ {deep : ℕ} {Key : List ℕ → Type 0} {flux : Ref → Type 0} {S : Tree} {G : Ghost} (t : TreeOk deep Key flux S G) (bytes : Bytewise Key) where
-  -- below a linked leaf there is no other
-  pub alone : (i j : ℕ) → Linked G (leaf i) → Linked G (leaf j) → G.path (leaf i) ≼ (S.entries j).key → j ≡ i
-  alone i j li lj h =
-      let e : leaf j ≡ leaf i = ⊎_elim (λ q. Reach.leaf_alone S i (leaf j) (Reach.compared t (leaf i) (leaf j) li lj q))
-      (λ q. sym (Reach.leaf_alone S j (leaf i) (Reach.compared t (leaf j) (leaf i) lj li q)))
-      (≼_or (G.path (leaf i)) (G.path (leaf j)) (S.entries j).key h (t.entry j lj).0) in
-      cc e
+  -- a node that is not half moved
+  abbrev Free : bare.Hold → Type 0
+  Free h = flux h.ref → ⊥
 
-  -- a held key under x, with its byte there and the child under it
-  record Way (x : Ref) (j : ℕ) : Type 0 where
-    byte : ℕ
-    kid : Ref
-    is : child S x byte ≡ Some kid
-    goes : G.full x ++ byte ∷ [] ≼ (S.entries j).key
-    small : byte < 256
-
-  way : (x : Ref) (j : ℕ) → IsNode x → Linked G x → Linked G (leaf j) → G.path x ≼ (S.entries j).key → Way x j
-  way x j n l lj h =
-      let r = Reach.branch t x j n l lj h in
-      record {
-        byte = r.0;
-        kid = r.1;
-        is = r.2;
-        goes = r.4;
-        small = omega (arith, byte_at (G.full x) (S.entries j).key r.0 r.4, bytes (S.entries j).key (t.entry j lj).1 (length (G.full x)));
-      }
-
-  -- what begins with a child's bytes begins with its parent's
-  up : (x : Ref) (b : ℕ) (v : List ℕ) → IsNode x → Linked G x → G.full x ++ b ∷ [] ≼ v → G.path x ≼ v
-  up x b v n l h =
-      ≼_trans (G.path x) (G.full x) v (t.split x n l).0 (≼_trans (G.full x) (G.full x ++ b ∷ []) v (≼_app (G.full x) (b ∷ [])) h)
-
-  pub leaf_best : (i : ℕ) → Linked G (leaf i) → Best S G (G.path (leaf i)) i
-  leaf_best i l = record {
-    linked = l;
-    under = (t.entry i l).0;
-    least = λ j lj h f. first_not (S.entries i).key (subst (λ (m : ℕ). First (S.entries m).key (S.entries i).key) (alone i j l lj h) f);
-  }
-
-  -- the smallest leaf is the smallest one of the smallest child
-  pub min : (x y : Ref) (c i : ℕ) → IsNode x → Linked G x → smallest S x ≡ Some (c, y) → Best S G (G.path y) i → Best S G (G.path x) i
-  min x y c i n l e m =
-      let s = smallest_some S x c y e in
-      let p = (t.kid x c y l s.0).1 in
-      let u : G.full x ++ c ∷ [] ≼ (S.entries i).key = subst (λ (v : List ℕ). v ≼ (S.entries i).key) p m.under in
-      record {
-        linked = m.linked;
-        under = up x c (S.entries i).key n l u;
-        least = λ j lj h f.
-            let w = way x j n l lj h in
-            let q : c ≤ w.byte = s.2 w.byte w.kid (omega arith) w.is in
-            ⊎_elim
-            (λ i'. m.least j lj (subst (λ (v : List ℕ). v ≼ (S.entries j).key) (ap (λ (b : ℕ). G.full x ++ b ∷ []) i' ∙ sym p) w.goes) f)
-            (⊎_elim (λ lt. absurd (omega arith)) (λ gt. first_asym (S.entries i).key (S.entries j).key (fork (G.full x) (S.entries i).key (S.entries j).key c w.byte u w.goes gt) f))
-            (cases_order w.byte c);
-      }
-
-  module _ (Ok : Hold → Type 0) where
-    -- the way down leads to the smallest leaf
-    down : (h : Hold) (hs : List Hold) (i : ℕ) → IsNode h.at → Linked G h.at → SawDown deep S Ok h hs (got i) → Ok h → AllByRecursion Ok hs → Best S G (G.path h.at) i
-    down h [] i n l saw o os =
-        let v = down_view deep S h.at h.depth (got i) (saw o) (λ e. let z : ◌≡◌ {A = ℕ} 0 1 = cc e in omega arith) in
-        let s = smallest_some S h.at v.0 v.1 v.2 in
-        let e : v.1 ≡ leaf i = picks_got v.1 _ i v.3 in
-        min h.at v.1 v.0 i n l v.2
-        (subst (λ (y : Ref). Best S G (G.path y) i) (sym e) (leaf_best i (subst (Linked G) e (t.kid h.at v.0 v.1 l s.0).0)))
-    down h (g ∷ hs) i n l saw o os =
-        let v = down_view deep S h.at h.depth (aside g.at g.depth) (saw.0 o) (λ e. let z : ◌≡◌ {A = ℕ} 0 1 = cc e in omega arith) in
-        let s = smallest_some S h.at v.0 v.1 v.2 in
-        let e = picks_aside v.1 _ g.at g.depth v.3 in
-        min h.at v.1 v.0 i n l v.2
-        (subst (λ (y : Ref). Best S G (G.path y) i) (sym e.0)
-        (down g hs i e.1 (subst (Linked G) e.0 (t.kid h.at v.0 v.1 l s.0).0) saw.1 os.0 os.1))
-
-    -- a child picked leads to its smallest leaf
-    led : (y : Ref) (e : ℕ) (s : Sight) (hs : List Hold) (r : Option ℕ) → Linked G y → picks y e ≡ s → Led deep S Ok s hs r → AllByRecursion Ok hs → (i : ℕ) × (r ≡ Some i) × Best S G (G.path y) i
-    led (leaf j) e s [] None l p q os = let z : ◌≡◌ {A = ℕ} 0 1 = cc (p, q) in absurd (omega arith)
-    led (leaf j) e s [] (Some i) l p q os = let m : j ≡ i = cc (p, q) in (j, ap Some (sym m), leaf_best j l)
-    led (leaf j) e s (h ∷ hs) None l p q os = absurd q
-    led (leaf j) e s (h ∷ hs) (Some i) l p q os = let z : ◌≡◌ {A = ℕ} 0 1 = cc (p, q.0) in absurd (omega arith)
-    led (node c j) e s [] None l p q os = let z : ◌≡◌ {A = ℕ} 0 1 = cc (p, q) in absurd (omega arith)
-    led (node c j) e s [] (Some i) l p q os = let z : ◌≡◌ {A = ℕ} 0 1 = cc (p, q) in absurd (omega arith)
-    led (node c j) e s (h ∷ hs) None l p q os = absurd q
-    led (node c j) e s (h ∷ hs) (Some i) l p q os =
-        let m : node c j ≡ h.at = cc (p, q.0) in
-        (i, refl, subst (λ (y : Ref). Best S G (G.path y) i) (sym m) (down h hs i (subst IsNode m tt) (subst (Linked G) m l) q.1 os.0 os.1))
-
-    led_back : (s : Sight) (hs : List Hold) (r : Option ℕ) → s ≡ back → Led deep S Ok s hs r → r ≡ None
-    led_back s [] None e q = refl
-    led_back s [] (Some i) e q = let z : ◌≡◌ {A = ℕ} 0 1 = cc (e, q) in absurd (omega arith)
-    led_back s (h ∷ hs) None e q = refl
-    led_back s (h ∷ hs) (Some i) e q = let z : ◌≡◌ {A = ℕ} 0 1 = cc (e, q.0) in absurd (omega arith)
-
-    never_onward : (s : Sight) (y : Ref) (d : ℕ) (hs : List Hold) (r : Option ℕ) → s ≡ onward y d → Led deep S Ok s hs r → ⊥
-    never_onward s y d [] None e q = let z : ◌≡◌ {A = ℕ} 0 1 = cc (e, q) in omega arith
-    never_onward s y d [] (Some i) e q = let z : ◌≡◌ {A = ℕ} 0 1 = cc (e, q) in omega arith
-    never_onward s y d (h ∷ hs) None e q = q
-    never_onward s y d (h ∷ hs) (Some i) e q = let z : ◌≡◌ {A = ℕ} 0 1 = cc (e, q.0) in omega arith
-
-    never_stale : (s : Sight) (hs : List Hold) (r : Option ℕ) → Led deep S Ok s hs r → s ≡ stale → ⊥
-    never_stale s [] None q e = let z : ◌≡◌ {A = ℕ} 0 1 = cc (e, q) in omega arith
-    never_stale s [] (Some i) q e = let z : ◌≡◌ {A = ℕ} 0 1 = cc (e, q) in omega arith
-    never_stale s (h ∷ hs) None q e = q
-    never_stale s (h ∷ hs) (Some i) q e = let z : ◌≡◌ {A = ℕ} 0 1 = cc (e, q.0) in omega arith
-
-    module _ (k : List ℕ) where
-      -- all keys under x are above k: the smallest is the answer
-      over : (x : Ref) (i : ℕ) → ((j : ℕ) → Linked G (leaf j) → G.path x ≼ (S.entries j).key → First k (S.entries j).key) → Best S G (G.path x) i → Fit S G k (G.path x) i
-      over x i a m = record {
-        linked = m.linked;
-        under = m.under;
-        from = λ f. first_asym k (S.entries i).key (a i m.linked m.under) f;
-        least = λ j lj h nf f. m.least j lj h f;
-      }
-
-      -- the answer under the key's byte is the answer
-      upto : (x : Ref) (b i : ℕ) → IsNode x → Linked G x → G.full x ++ b ∷ [] ≼ k → Fit S G k (G.full x ++ b ∷ []) i → Fit S G k (G.path x) i
-      upto x b i n l hk m = record {
-        linked = m.linked;
-        under = up x b (S.entries i).key n l m.under;
-        from = m.from;
-        least = λ j lj h nf f.
-            let w = way x j n l lj h in
-            ⊎_elim
-            (λ e. m.least j lj (subst (λ (c : ℕ). G.full x ++ c ∷ [] ≼ (S.entries j).key) e w.goes) nf f)
-            (⊎_elim
-            (λ lt. nf (fork (G.full x) (S.entries j).key k w.byte b w.goes hk lt))
-            (λ gt. first_asym (S.entries i).key (S.entries j).key (fork (G.full x) (S.entries i).key (S.entries j).key b w.byte m.under w.goes gt) f))
-            (cases_order w.byte b);
-      }
-
-      -- nothing under the key's byte counts: the smallest child past it has the answer
-      beyond : (x : Ref) (b e : ℕ) (s : Sight) (hs : List Hold) (r : Option ℕ) (o : Option (ℕ × Ref)) → IsNode x → Linked G x → G.full x ++ b ∷ [] ≼ k
-          → Answer S G k (G.full x ++ b ∷ []) None → past S x b ≡ o → picked o e back ≡ s → Led deep S Ok s hs r → AllByRecursion Ok hs → Answer S G k (G.path x) r
-      beyond x b e s hs r None n l hk low p q d os =
-          subst (Answer S G k (G.path x)) (sym (led_back s hs r (sym q) d)) (λ j lj h.
-          let w = way x j n l lj h in
-          ⊎_elim
-          (λ i. low j lj (subst (λ (c : ℕ). G.full x ++ c ∷ [] ≼ (S.entries j).key) i w.goes))
-          (⊎_elim
-          (λ lt. fork (G.full x) (S.entries j).key k w.byte b w.goes hk lt)
-          (λ gt. absurd (past_none S x b p w.byte w.kid gt w.small w.is)))
-          (cases_order w.byte b))
-      beyond x b e s hs r (Some (c, y)) n l hk low p q d os =
-          let v = past_some S x b c y p in
-          let g = t.kid x c y l v.0 in
-          let a = led y e s hs r g.0 q d os in
-          let i : ℕ = a.0 in
-          let m : Best S G (G.path y) i = a.2 in
-          let u : G.full x ++ c ∷ [] ≼ (S.entries i).key = subst (λ (w : List ℕ). w ≼ (S.entries i).key) g.1 m.under in
-          let fit : Fit S G k (G.path x) i = record {
-            linked = m.linked;
-            under = up x c (S.entries i).key n l u;
-            from = λ f. first_asym k (S.entries i).key (fork (G.full x) k (S.entries i).key b c hk u v.1) f;
-            least = λ j lj h nf f.
-                let w = way x j n l lj h in
-                ⊎_elim
-                (λ e'. nf (low j lj (subst (λ (z : ℕ). G.full x ++ z ∷ [] ≼ (S.entries j).key) e' w.goes)))
-                (⊎_elim
-                (λ lt. nf (fork (G.full x) (S.entries j).key k w.byte b w.goes hk lt))
-                (λ gt. ⊎_elim
-                (λ e'. m.least j lj (subst (λ (z : List ℕ). z ≼ (S.entries j).key) (ap (λ (z : ℕ). G.full x ++ z ∷ []) e' ∙ sym g.1) w.goes) f)
-                (⊎_elim
-                (λ lt. let q' : c ≤ w.byte = v.2 w.byte w.kid gt w.is in omega (arith, q', lt))
-                (λ gt'. first_asym (S.entries i).key (S.entries j).key (fork (G.full x) (S.entries i).key (S.entries j).key c w.byte u w.goes gt') f))
-                (cases_order w.byte c)))
-                (cases_order w.byte b);
-          } in
-          subst (Answer S G k (G.path x)) (sym a.1) fit
-
-      -- a node on the key's way, where the key's place in it is told by the depth
-      record OnKey (h : Hold) : Type 0 where
-        is_node : IsNode h.at
-        linked : Linked G h.at
-        begins : G.path h.at ≼ k
-        depth : h.depth ≡ length (G.path h.at)
-        whole : G.path h.at ++ prefix S h.at ≡ G.full h.at
-
-      -- an equal prefix: the key goes on in x with the byte b
-      at_byte : (h : Hold) (b : ℕ) → OnKey h → against (prefix S h.at) (drop h.depth k) ≡ same b → G.full h.at ++ b ∷ [] ≼ k
-      at_byte h b o a =
-          let p : G.path h.at ++ (prefix S h.at ++ b ∷ []) ≼ k = drop_begins (G.path h.at) (prefix S h.at ++ b ∷ []) k o.begins
-          (same_begins (prefix S h.at) (drop (length (G.path h.at)) k) b (subst (λ (d : ℕ). against (prefix S h.at) (drop d k) ≡ same b) o.depth a)) in
-          subst (λ (u : List ℕ). u ++ b ∷ [] ≼ k) o.whole (subst (λ (u : List ℕ). u ≼ k) (sym (mathlib.Core.List.append_assoc (G.path h.at) (prefix S h.at) (b ∷ []))) p)
-
-      -- a held key under x begins with the prefix behind the path
-      in_prefix : (h : Hold) (j : ℕ) → OnKey h → Linked G (leaf j) → G.path h.at ≼ (S.entries j).key → prefix S h.at ≼ drop (length (G.path h.at)) (S.entries j).key
-      in_prefix h j o lj u =
-          let w = way h.at j o.is_node o.linked lj u in
-          begins_drop (G.path h.at) (prefix S h.at) (S.entries j).key
-          (subst (λ (v : List ℕ). v ≼ (S.entries j).key) (sym o.whole) (≼_trans (G.full h.at) (G.full h.at ++ w.byte ∷ []) (S.entries j).key (≼_app (G.full h.at) (w.byte ∷ [])) w.goes))
-
-      unfit : (x : Ref) (b : ℕ) (o : Option Ref) → IsNode x → Linked G x → child S x b ≡ o → Unfit S k o → Answer S G k (G.full x ++ b ∷ []) None
-      unfit x b None n l e q j lj h =
-          let w = way x j n l lj (up x b (S.entries j).key n l h) in
-          let i : w.byte ≡ b = sym (byte_at (G.full x) (S.entries j).key w.byte w.goes) ∙ byte_at (G.full x) (S.entries j).key b h in
-          absurd (none_some (sym e ∙ ap (child S x) (sym i) ∙ w.is))
-      unfit x b (Some (leaf i)) n l e q j lj h =
-          let g = t.kid x b (leaf i) l e in
-          subst (λ (m : ℕ). First (S.entries m).key k) (sym (alone i j g.0 lj (subst (λ (v : List ℕ). v ≼ (S.entries j).key) (sym g.1) h))) q
-      unfit x b (Some (node c i)) n l e q j lj h = absurd q
-
-      -- the newest look at the last node of the key's way
-      ends : (h : Hold) (s : Sight) (hs : List Hold) (r : Option ℕ) → OnKey h → KeyView S k h.at h.depth s → Led deep S Ok s hs r → AllByRecursion Ok hs → Answer S G k (G.path h.at) r
-      ends h s hs r o (KeyView.above c y a p q) d os =
-          let v = smallest_some S h.at c y p in
-          let m = led y _ s hs r (t.kid h.at c y o.linked v.0).0 q d os in
-          subst (Answer S G k (G.path h.at)) (sym m.1) (over h.at m.0
-          (λ j lj u. first_behind (G.path h.at) k (S.entries j).key o.begins u
-          (larger_first (prefix S h.at) (drop (length (G.path h.at)) k) (drop (length (G.path h.at)) (S.entries j).key)
-          (subst (λ (n : ℕ). against (prefix S h.at) (drop n k) ≡ larger) o.depth a) (in_prefix h j o lj u)))
-          (min h.at y c m.0 o.is_node o.linked p m.2))
-      ends h s hs r o (KeyView.lower a e) d os =
-          subst (Answer S G k (G.path h.at)) (sym (led_back s hs r e d)) (λ j lj u.
-          first_behind (G.path h.at) (S.entries j).key k u o.begins
-          (smaller_first (prefix S h.at) (drop (length (G.path h.at)) k) (drop (length (G.path h.at)) (S.entries j).key)
-          (subst (λ (n : ℕ). against (prefix S h.at) (drop n k) ≡ smaller) o.depth a) (in_prefix h j o lj u)))
-      ends h s hs r o (KeyView.beside b a q p) d os =
-          beyond h.at b _ s hs r (past S h.at b) o.is_node o.linked (at_byte h b o a) (unfit h.at b (child S h.at b) o.is_node o.linked refl q) refl p d os
-      ends h s hs r o (KeyView.at b i a e f q) d os =
-          let g = t.kid h.at b (leaf i) o.linked e in
-          let m = led (leaf i) 0 s hs r g.0 (sym q) d os in
-          let z : m.0 ≡ i = alone i m.0 g.0 m.2.linked m.2.under in
-          let fit : Fit S G k (G.full h.at ++ b ∷ []) m.0 = record {
-            linked = m.2.linked;
-            under = subst (λ (v : List ℕ). v ≼ (S.entries m.0).key) g.1 m.2.under;
-            from = subst (λ (n : ℕ). First (S.entries n).key k → ⊥) (sym z) f;
-            least = λ j lj u nf w. m.2.least j lj (subst (λ (v : List ℕ). v ≼ (S.entries j).key) (sym g.1) u) w;
-          } in
-          subst (Answer S G k (G.path h.at)) (sym m.1) (upto h.at b m.0 o.is_node o.linked (at_byte h b o a) fit)
-      ends h s hs r o (KeyView.on b y a e n q) d os = absurd (never_onward s y _ hs r q d)
-
-      -- the next node on the key's way
-      record Onward (h g : Hold) : Type 0 where
-        byte : ℕ
-        is : child S h.at byte ≡ Some g.at
-        goes : G.full h.at ++ byte ∷ [] ≼ k
-        path : G.path g.at ≡ G.full h.at ++ byte ∷ []
-        is_node : IsNode g.at
-        linked : Linked G g.at
-        depth : g.depth ≡ suc (length (G.full h.at))
-
-      onwards : (h g : Hold) → OnKey h → KeyView S k h.at h.depth (onward g.at g.depth) → Onward h g
-      onwards h g o (KeyView.above c y a p q) = absurd (picks_not y _ g.at g.depth q)
-      onwards h g o (KeyView.lower a e) = let z : ◌≡◌ {A = ℕ} 0 1 = cc e in absurd (omega arith)
-      onwards h g o (KeyView.beside b a q p) = absurd (picked_not (past S h.at b) _ g.at g.depth p)
-      onwards h g o (KeyView.at b i a e f q) = let z : ◌≡◌ {A = ℕ} 0 1 = cc q in absurd (omega arith)
-      onwards h g o (KeyView.on b y a e n q) =
-          let i : y ≡ g.at = cc q in
-          let j : g.depth ≡ suc (h.depth + length (prefix S h.at)) = cc q in
-          let f : child S h.at b ≡ Some g.at = e ∙ ap Some i in
-          let c = t.kid h.at b g.at o.linked f in
-          record {
-            byte = b;
-            is = f;
-            goes = at_byte h b o a;
-            path = c.1;
-            is_node = subst IsNode i n;
-            linked = c.0;
-            depth = omega (arith, j, o.depth, length-append (G.path h.at) (prefix S h.at), ap length o.whole);
-          }
-
-      on_key : (h g : Hold) (w : Onward h g) → G.path g.at ≼ k
-      on_key h g w = subst (λ (v : List ℕ). v ≼ k) (sym w.path) w.goes
-
-      at_depth : (h g : Hold) (w : Onward h g) → g.depth ≡ length (G.path g.at)
-      at_depth h g w = omega (arith, w.depth, ap length w.path, snoc_len (G.full h.at) w.byte)
-
-      byte_taken : (h g : Hold) (w : Onward h g) → taken k g ≡ w.byte
-      byte_taken h g w =
-          let e : g.depth - 1 ≡ length (G.full h.at) = omega (arith, w.depth) in
-          ap (λ (n : ℕ). get_or k n 0) e ∙ byte_at (G.full h.at) k w.byte w.goes
-
-      lifted : (h g : Hold) (n : ℕ) (r : Option ℕ) → OnKey h → Onward h g → Past (suc n) r → Answer S G k (G.path g.at) r → Answer S G k (G.path h.at) r
-      lifted h g n None o w p a = absurd (omega (arith, p))
-      lifted h g n (Some i) o w p a = upto h.at w.byte i o.is_node o.linked w.goes (subst (λ (v : List ℕ). Fit S G k v i) w.path a)
-
-      past_on : (n : ℕ) (r : Option ℕ) → Past (suc n) r → Past n r
-      past_on n None p = absurd (omega (arith, p))
-      past_on n (Some i) p = tt
-
-      onward_fresh : (y : Ref) (d : ℕ) → onward y d ≡ stale → ⊥
-      onward_fresh y d e = let z : ◌≡◌ {A = ℕ} 0 1 = cc e in omega arith
-
-      module _ (still : (g : Hold) → Ok g → flux g.at → ⊥) where
-        stands : (h : Hold) → IsNode h.at → Linked G h.at → G.path h.at ≼ k → h.depth ≡ length (G.path h.at) → Ok h → OnKey h
-        stands h n l u d o = record {
-          is_node = n;
-          linked = l;
-          begins = u;
-          depth = d;
-          whole = ⊎_elim (λ e. e) (λ x. absurd (still h o x)) (t.split h.at n l).1;
-        }
-
-        -- from the newest node on the key's way to the first: the answer among the keys under each
-        answer : (h : Hold) (hs : List Hold) (n : ℕ) (s : Sight) (ds : List Hold) (r : Option ℕ) → OnKey h
-            → Saw deep S k Ok (h ∷ hs) n s → Led deep S Ok s ds r → Past n r → Ok h → AllByRecursion Ok hs → AllByRecursion Ok ds → Answer S G k (G.path h.at) r
-        answer h [] zero s ds r ok saw d p o os od = ends h s ds r ok (key_view S k h.at h.depth s deep (saw o) (never_stale s ds r d)) d od
-        answer h [] (suc n) s ds r ok saw d p o os od = absurd saw
-        answer h (g ∷ hs) zero s ds r ok saw d p o os od =
-            let w = onwards h g ok (key_view S k h.at h.depth _ deep (saw.0 o) (onward_fresh g.at g.depth)) in
-            let low : Answer S G k (G.path g.at) None = answer g hs zero back [] None (stands g w.is_node w.linked (on_key h g w) (at_depth h g w) os.0) saw.1 refl refl os.0 os.1 tt in
-            let v = back_view deep S w.byte h.at h.depth s (subst (λ (b : ℕ). back_sight deep S b h.at h.depth ≡ s) (byte_taken h g w) (saw.2 o)) (never_stale s ds r d) in
-            beyond h.at w.byte _ s ds r (past S h.at w.byte) ok.is_node ok.linked w.goes (subst (λ (u : List ℕ). Answer S G k u None) w.path low) refl v d od
-        answer h (g ∷ hs) (suc n) s ds r ok saw d p o os od =
-            let w = onwards h g ok (key_view S k h.at h.depth _ deep (saw.0 o) (onward_fresh g.at g.depth)) in
-            lifted h g n r ok w p (answer g hs n s ds r (stands g w.is_node w.linked (on_key h g w) (at_depth h g w) os.0) saw.1 d (past_on n r p) os.0 os.1 od)
-
-        root_on : (h : Hold) → h.at ≡ root → h.depth ≡ 0 → Ok h → OnKey h
-        root_on h e d o = stands h (subst IsNode (sym e) tt) (subst (Linked G) (sym e) t.root_linked)
-            (subst (λ (u : List ℕ). u ≼ k) (sym (ap G.path e ∙ t.root_path)) tt) (omega (arith, d, ap length (ap G.path e ∙ t.root_path))) o
-
-        -- a node on the way down
-        record OnDown (h : Hold) : Type 0 where
-          is_node : IsNode h.at
-          linked : Linked G h.at
-          depth : h.depth ≡ length (G.path h.at)
-          whole : G.path h.at ++ prefix S h.at ≡ G.full h.at
-          inner : h.at ≡ root → ⊥
-
-        -- a look within the bound of depth
-        room : (x : Ref) (d : ℕ) → IsNode x → Linked G x → d ≡ length (G.path x) → G.path x ++ prefix S x ≡ G.full x → leb deep (d + length (prefix S x)) ≡ false
-        room x d n l e w =
-            let q : d + length (prefix S x) ≡ length (G.full x) = omega (arith, e, length-append (G.path x) (prefix S x), ap length w) in
-            lt-leb deep (d + length (prefix S x)) (omega (arith, q, (t.short x n l).0))
-
-        fresh_key : (h : Hold) → Key k → OnKey h → key_sight deep S k h.at h.depth ≡ stale → ⊥
-        unfolding key_sight
-        fresh_key h key o e =
-            go (against (prefix S h.at) (drop h.depth k)) refl
-            (subst (λ (b : Bool). cond b stale (keyed S k h.at (suc (h.depth + length (prefix S h.at))) (against (prefix S h.at) (drop h.depth k))) ≡ stale)
-            (room h.at h.depth o.is_node o.linked o.depth o.whole) e)
-          where
-            go : (c : Compared) → against (prefix S h.at) (drop h.depth k) ≡ c → keyed S k h.at (suc (h.depth + length (prefix S h.at))) c ≡ stale → ⊥
-            go larger a q = smallest_fresh (smallest S h.at) _ (has_smallest S h.at (t.wide h.at o.is_node
-                (λ r. nil_not_larger (drop h.depth k) (subst (λ (p : List ℕ). against p (drop h.depth k) ≡ larger) (ap (prefix S) r ∙ t.root_prefix) a)) (inl o.linked))) q
-            go smaller a q = let z : ◌≡◌ {A = ℕ} 0 1 = cc q in omega arith
-            go ended a q = (t.short h.at o.is_node o.linked).1 k key (subst (λ (u : List ℕ). k ≼ u) o.whole
-                (begins_behind (G.path h.at) k (prefix S h.at) o.begins
-                (ended_begins (prefix S h.at) (drop (length (G.path h.at)) k) (subst (λ (d : ℕ). against (prefix S h.at) (drop d k) ≡ ended) o.depth a))))
-            go (same b) a q = under_fresh S k h.at _ b (child S h.at b) q
-
-        fresh_back : (h : Hold) (b : ℕ) → OnKey h → back_sight deep S b h.at h.depth ≡ stale → ⊥
-        unfolding back_sight
-        fresh_back h b o e =
-            back_fresh (past S h.at b) _ (subst (λ (c : Bool). cond c stale (picked (past S h.at b) (suc (h.depth + length (prefix S h.at))) back) ≡ stale)
-            (room h.at h.depth o.is_node o.linked o.depth o.whole) e)
-
-        fresh_down : (h : Hold) → OnDown h → down_sight deep S h.at h.depth ≡ stale → ⊥
-        unfolding down_sight
-        fresh_down h o e =
-            smallest_fresh (smallest S h.at) _ (has_smallest S h.at (t.wide h.at o.is_node o.inner (inl o.linked)))
-            (subst (λ (c : Bool). cond c stale (picked (smallest S h.at) (suc (h.depth + length (prefix S h.at))) stale) ≡ stale)
-            (room h.at h.depth o.is_node o.linked o.depth o.whole) e)
-
-        -- a child picked, on the way down
-        stands_down : (h g : Hold) (c : ℕ) (y : Ref) → Linked G h.at → h.depth ≡ length (G.path h.at) → G.path h.at ++ prefix S h.at ≡ G.full h.at
-            → child S h.at c ≡ Some y → picks y (suc (h.depth + length (prefix S h.at))) ≡ aside g.at g.depth → Ok g → OnDown g
-        stands_down h g c y l d w e q o =
-            let i = picks_aside y _ g.at g.depth q in
-            let j = picks_depth y _ g.at g.depth q in
-            let m = t.kid h.at c g.at l (e ∙ ap Some i.0) in
-            let n : length (G.path g.at) ≡ suc (length (G.full h.at)) = ap length m.1 ∙ snoc_len (G.full h.at) c in
-            record {
-              is_node = i.1;
-              linked = m.0;
-              depth = omega (arith, j, n, d, length-append (G.path h.at) (prefix S h.at), ap length w);
-              whole = ⊎_elim (λ x. x) (λ x. absurd (still g o x)) (t.split g.at i.1 m.0).1;
-              inner = λ r. omega (arith, n, ap length (ap G.path r ∙ t.root_path));
-            }
-
-        past_down : (h g : Hold) (b : ℕ) (o : Option (ℕ × Ref)) → OnKey h → past S h.at b ≡ o → picked o (suc (h.depth + length (prefix S h.at))) back ≡ aside g.at g.depth → Ok g → OnDown g
-        past_down h g b None k' e q o = let z : ◌≡◌ {A = ℕ} 0 1 = cc q in absurd (omega arith)
-        past_down h g b (Some (c, y)) k' e q o = stands_down h g c y k'.linked k'.depth k'.whole (past_some S h.at b c y e).0 q o
-
-        key_down : (h g : Hold) → OnKey h → KeyView S k h.at h.depth (aside g.at g.depth) → Ok g → OnDown g
-        key_down h g k' (KeyView.above c y a p q) o = stands_down h g c y k'.linked k'.depth k'.whole (smallest_some S h.at c y p).0 q o
-        key_down h g k' (KeyView.lower a e) o = let z : ◌≡◌ {A = ℕ} 0 1 = cc e in absurd (omega arith)
-        key_down h g k' (KeyView.beside b a u q) o = past_down h g b (past S h.at b) k' refl q o
-        key_down h g k' (KeyView.at b i a e f q) o = let z : ◌≡◌ {A = ℕ} 0 1 = cc q in absurd (omega arith)
-        key_down h g k' (KeyView.on b y a e n q) o = let z : ◌≡◌ {A = ℕ} 0 1 = cc q in absurd (omega arith)
-
-        aside_fresh : (y : Ref) (d : ℕ) → aside y d ≡ stale → ⊥
-        aside_fresh y d e = let z : ◌≡◌ {A = ℕ} 0 1 = cc e in omega arith
-
-        next_on : (h g : Hold) → OnKey h → key_sight deep S k h.at h.depth ≡ onward g.at g.depth → Ok g → OnKey g
-        next_on h g k' e o =
-            let w = onwards h g k' (key_view S k h.at h.depth _ deep e (onward_fresh g.at g.depth)) in
-            stands g w.is_node w.linked (on_key h g w) (at_depth h g w) o
-
-        newest_on : (h : Hold) (hs : List Hold) → OnKey h → Links deep S k Ok h hs → Ok h → AllByRecursion Ok hs → OnKey (newest h hs)
-        newest_on h [] k' w o os = k'
-        newest_on h (g ∷ hs) k' w o os = newest_on g hs (next_on h g k' (w.0 o) os.0) w.1 os.0 os.1
-
-        place_on : (h : Hold) (hs : List Hold) (n : ℕ) → OnKey h → Saw deep S k Ok (h ∷ hs) (suc n) back → Ok h → AllByRecursion Ok hs → OnKey (place h hs n)
-        place_on h hs zero k' w o os = k'
-        place_on h [] (suc n) k' w o os = absurd w
-        place_on h (g ∷ hs) (suc n) k' w o os = place_on g hs n (next_on h g k' (w.0 o) os.0) w.1 os.0 os.1
-
-        aside_on : (h : Hold) (hs : List Hold) (n : ℕ) (g : Hold) → OnKey h → Saw deep S k Ok (h ∷ hs) n (aside g.at g.depth) → Ok h → AllByRecursion Ok hs → Ok g → OnDown g
-        aside_on h [] zero g k' w o os og = key_down h g k' (key_view S k h.at h.depth _ deep (w o) (aside_fresh g.at g.depth)) og
-        aside_on h [] (suc n) g k' w o os og = absurd w
-        aside_on h (x ∷ hs) zero g k' w o os og =
-            past_down h g (taken k x) (past S h.at (taken k x)) k' refl (back_view deep S (taken k x) h.at h.depth _ (w.2 o) (aside_fresh g.at g.depth)) og
-        aside_on h (x ∷ hs) (suc n) g k' w o os og = aside_on x hs n g (next_on h x k' (w.0 o) os.0) w.1 os.0 os.1 og
-
-        newest_down : (h : Hold) (hs : List Hold) → OnDown h → DownLinks deep S k Ok h hs → Ok h → AllByRecursion Ok hs → OnDown (newest h hs)
-        newest_down h [] k' w o os = k'
-        newest_down h (g ∷ hs) k' w o os =
-            let v = down_view deep S h.at h.depth _ (w.0 o) (aside_fresh g.at g.depth) in
-            newest_down g hs (stands_down h g v.0 v.1 k'.linked k'.depth k'.whole (smallest_some S h.at v.0 v.1 v.2).0 v.3 os.0) w.1 os.0 os.1
-
-        root_on' : (f : Hold) → AtRoot f → Ok f → OnKey f
-        root_on' f e o = root_on f e.0 e.1 o
-
-        -- with every permit sound, a look is not stale
-        pub fresh_look : (f : Hold) (hs : List Hold) → Key k → Seen deep S k Ok (on f hs [] look_key) → Ok f → AllByRecursion Ok hs → key_sight deep S k (newest f hs).at (newest f hs).depth ≡ stale → ⊥
-        fresh_look f hs key w o os = fresh_key (newest f hs) key (newest_on f hs (root_on' f w.0 o) w.1 o os)
-
-        pub fresh_look_back : (f : Hold) (hs : List Hold) (n b : ℕ) → Seen deep S k Ok (on f hs [] (look_back n)) → Ok f → AllByRecursion Ok hs → back_sight deep S b (place f hs n).at (place f hs n).depth ≡ stale → ⊥
-        fresh_look_back f hs n b w o os = fresh_back (place f hs n) b (place_on f hs n (root_on' f w.0 o) w.1 o os)
-
-        pub fresh_look_down : (f g : Hold) (hs ds : List Hold) (n : ℕ) → Seen deep S k Ok (on f hs (g ∷ ds) (look_down n)) → Ok f → AllByRecursion Ok hs → AllByRecursion Ok (g ∷ ds)
-            → down_sight deep S (newest g ds).at (newest g ds).depth ≡ stale → ⊥
-        fresh_look_down f g hs ds n w o os od =
-            let d : OnDown g = aside_on f hs n g (root_on' f w.0 o) (subst (Saw deep S k Ok (f ∷ hs) n) w.1.2.0 w.1.1) o os od.0 in
-            fresh_down (newest g ds) (newest_down g ds d w.1.2.1 od.0 od.1)
-
-        -- with every permit sound, all nodes of the key's way stand on it
-        keys_on : (h : Hold) (hs : List Hold) (n : ℕ) (s : Sight) → OnKey h → Saw deep S k Ok (h ∷ hs) n s → Ok h → AllByRecursion Ok hs → AllByRecursion OnKey (h ∷ hs)
-        keys_on h [] zero s k' w o os = (k', tt)
-        keys_on h [] (suc n) s k' w o os = absurd w
-        keys_on h (g ∷ hs) zero s k' w o os = (k', keys_on g hs zero back (next_on h g k' (w.0 o) os.0) w.1 os.0 os.1)
-        keys_on h (g ∷ hs) (suc n) s k' w o os = (k', keys_on g hs n s (next_on h g k' (w.0 o) os.0) w.1 os.0 os.1)
-
-        -- a node to be taken: it is linked, and its depth is that of its path
-        abbrev Aim : Ref → ℕ → Type 0
-        Aim y e = Linked G y × (e ≡ length (G.path y))
-
-        -- the key's way leads on to y
-        led_on : (h : Hold) (hs : List Hold) (y : Ref) (e : ℕ) → OnKey h → Saw deep S k Ok (h ∷ hs) (length hs) (onward y e) → Ok h → AllByRecursion Ok hs → Aim y e
-        led_on h [] y e k' w o os =
-            let g : Hold = hold y e Grip.Locked in
-            let q = onwards h g k' (key_view S k h.at h.depth (onward y e) deep (w o) (onward_fresh y e)) in
-            (q.linked, at_depth h g q)
-        led_on h (g ∷ hs) y e k' w o os = led_on g hs y e (next_on h g k' (w.0 o) os.0) w.1 os.0 os.1
-
-        -- a child that is picked
-        picked_aim : (h : Hold) (c : ℕ) (y z : Ref) (e : ℕ) → Linked G h.at → h.depth ≡ length (G.path h.at) → G.path h.at ++ prefix S h.at ≡ G.full h.at
-            → child S h.at c ≡ Some y → picks y (suc (h.depth + length (prefix S h.at))) ≡ aside z e → Aim z e × (G.path z ≡ G.full h.at ++ c ∷ [])
-        picked_aim h c y z e l d w f q =
-            let i = picks_aside y _ z e q in
-            let j = picks_depth y _ z e q in
-            let m = t.kid h.at c z l (f ∙ ap Some i.0) in
-            let n : length (G.path z) ≡ suc (length (G.full h.at)) = ap length m.1 ∙ snoc_len (G.full h.at) c in
-            ((m.0, omega (arith, j, n, d, length-append (G.path h.at) (prefix S h.at), ap length w)), m.1)
-
-        -- off the key's way
-        abbrev Off : Ref → ℕ → Type 0
-        Off y e = Aim y e × (G.path y ≼ k → ⊥)
-
-        past_off : (h : Hold) (b : ℕ) (y : Ref) (e : ℕ) (o : Option (ℕ × Ref)) → OnKey h → G.full h.at ++ b ∷ [] ≼ k → past S h.at b ≡ o
-            → picked o (suc (h.depth + length (prefix S h.at))) back ≡ aside y e → Off y e
-        past_off h b y e None k' g f q = let z : ◌≡◌ {A = ℕ} 0 1 = cc q in absurd (omega arith)
-        past_off h b y e (Some (c, z)) k' g f q =
-            let v = past_some S h.at b c z f in
-            let a = picked_aim h c z y e k'.linked k'.depth k'.whole v.0 q in
-            (a.0, λ p. omega (arith, v.1, byte_at (G.full h.at) k b g, byte_at (G.full h.at) k c (subst (λ (u : List ℕ). u ≼ k) a.1 p)))
-
-        key_off : (h : Hold) (y : Ref) (e : ℕ) → OnKey h → KeyView S k h.at h.depth (aside y e) → Off y e
-        key_off h y e k' (KeyView.above c z a p q) =
-            let m = picked_aim h c z y e k'.linked k'.depth k'.whole (smallest_some S h.at c z p).0 q in (
-              m.0,
-              λ f.
-                  let r : List ℕ = drop (length (G.path h.at)) k in
-                  let i : G.full h.at ≼ k = ≼_trans (G.full h.at) (G.full h.at ++ c ∷ []) k (≼_app (G.full h.at) (c ∷ [])) (subst (λ (u : List ℕ). u ≼ k) m.1 f) in
-                  let j = begins_drop (G.path h.at) (prefix S h.at) k (subst (λ (u : List ℕ). u ≼ k) (sym k'.whole) i) in
-                  first_not r (larger_first (prefix S h.at) r r (subst (λ (n : ℕ). against (prefix S h.at) (drop n k) ≡ larger) k'.depth a) j),
-            )
-        key_off h y e k' (KeyView.lower a q) = let z : ◌≡◌ {A = ℕ} 0 1 = cc q in absurd (omega arith)
-        key_off h y e k' (KeyView.beside b a u q) = past_off h b y e (past S h.at b) k' (at_byte h b k' a) refl q
-        key_off h y e k' (KeyView.at b i a f g q) = let z : ◌≡◌ {A = ℕ} 0 1 = cc q in absurd (omega arith)
-        key_off h y e k' (KeyView.on b z a f n q) = let z : ◌≡◌ {A = ℕ} 0 1 = cc q in absurd (omega arith)
-
-        saw_off : (h : Hold) (hs : List Hold) (n : ℕ) (y : Ref) (e : ℕ) → OnKey h → Saw deep S k Ok (h ∷ hs) n (aside y e) → Ok h → AllByRecursion Ok hs → Off y e
-        saw_off h [] zero y e k' w o os = key_off h y e k' (key_view S k h.at h.depth (aside y e) deep (w o) (aside_fresh y e))
-        saw_off h [] (suc n) y e k' w o os = absurd w
-        saw_off h (g ∷ hs) zero y e k' w o os =
-            let q = onwards h g k' (key_view S k h.at h.depth _ deep (w.0 o) (onward_fresh g.at g.depth)) in
-            past_off h q.byte y e (past S h.at q.byte) k' q.goes refl
-            (back_view deep S q.byte h.at h.depth (aside y e) (subst (λ (b : ℕ). back_sight deep S b h.at h.depth ≡ aside y e) (byte_taken h g q) (w.2 o)) (aside_fresh y e))
-        saw_off h (g ∷ hs) (suc n) y e k' w o os = saw_off g hs n y e (next_on h g k' (w.0 o) os.0) w.1 os.0 os.1
-
-        -- the way down leads to y
-        down_off : (h : Hold) (hs : List Hold) (y : Ref) (e : ℕ) → OnDown h → (G.path h.at ≼ k → ⊥) → SawDown deep S Ok h hs (aside y e) → Ok h → AllByRecursion Ok hs → Off y e × AllByRecursion OnDown (h ∷ hs)
-        down_off h [] y e k' f w o os =
-            let v = down_view deep S h.at h.depth (aside y e) (w o) (aside_fresh y e) in
-            let a = picked_aim h v.0 v.1 y e k'.linked k'.depth k'.whole (smallest_some S h.at v.0 v.1 v.2).0 v.3 in
-            ((a.0, λ p. f (up h.at v.0 k k'.is_node k'.linked (subst (λ (u : List ℕ). u ≼ k) a.1 p))), (k', tt))
-        down_off h (g ∷ hs) y e k' f w o os =
-            let v = down_view deep S h.at h.depth _ (w.0 o) (aside_fresh g.at g.depth) in
-            let c = (smallest_some S h.at v.0 v.1 v.2).0 in
-            let a = picked_aim h v.0 v.1 g.at g.depth k'.linked k'.depth k'.whole c v.3 in
-            let r = down_off g hs y e (stands_down h g v.0 v.1 k'.linked k'.depth k'.whole c v.3 os.0)
-            (λ p. f (up h.at v.0 k k'.is_node k'.linked (subst (λ (u : List ℕ). u ≼ k) a.1 p))) w.1 os.0 os.1 in
-            (r.0, (k', r.1))
-
-        -- what is less deep, or on the key's way where y is not, is elsewhere
-        less_deep : (P : Hold → Type 0) → ((h : Hold) → P h → h.depth ≡ length (G.path h.at)) → (y : Ref) (d : ℕ) → d ≡ length (G.path y) → (hs : List Hold) → AllByRecursion P hs → AllByRecursion (λ h. h.depth < d) hs → AllByRecursion (λ h. h.at ≡ y → ⊥) hs
-        less_deep P f y d e [] a b = tt
-        less_deep P f y d e (h ∷ hs) a b = (
-          (λ q. let z : length (G.path h.at) ≡ length (G.path y) = ap (λ (x : Ref). length (G.path x)) q in omega (arith, z, e, b.0, f h a.0)),
-          less_deep P f y d e hs a.1 b.1,
-        )
-
-        off_apart : (y : Ref) → (G.path y ≼ k → ⊥) → (hs : List Hold) → AllByRecursion OnKey hs → AllByRecursion (λ h. h.at ≡ y → ⊥) hs
-        off_apart y f [] a = tt
-        off_apart y f (h ∷ hs) a = ((λ q. f (subst (λ (x : Ref). G.path x ≼ k) q a.0.begins)), off_apart y f hs a.1)
-
-        -- with every permit sound, the node to be taken is linked, and differs from those that are held
-        pub free_key : (f : Hold) (hs : List Hold) (y : Ref) (d : ℕ) → Seen deep S k Ok (on f hs [] (take_key y d)) → Ok f → AllByRecursion Ok hs → AllByRecursion (λ h. h.depth < d) (f ∷ hs)
-            → Linked G y × AllByRecursion (λ h. h.at ≡ y → ⊥) (f ∷ hs)
-        free_key f hs y d w o os b =
-            let r = root_on' f w.0 o in
-            let a = led_on f hs y d r w.1 o os in
-            (a.0, less_deep OnKey (λ h k'. k'.depth) y d a.1 (f ∷ hs) (keys_on f hs (length hs) (onward y d) r w.1 o os) b)
-
-        pub free_down : (f : Hold) (hs ds : List Hold) (n : ℕ) (y : Ref) (d : ℕ) → Seen deep S k Ok (on f hs ds (take_down n y d)) → Ok f → AllByRecursion Ok hs → AllByRecursion Ok ds → AllByRecursion (λ h. h.depth < d) ds
-            → Linked G y × AllByRecursion (λ h. h.at ≡ y → ⊥) (f ∷ hs) × AllByRecursion (λ h. h.at ≡ y → ⊥) ds
-        free_down f hs [] n y d w o os od b =
-            let r = root_on' f w.0 o in
-            let a = saw_off f hs n y d r (subst (Saw deep S k Ok (f ∷ hs) n) w.1.2 w.1.1) o os in
-            (a.0.0, off_apart y a.1 (f ∷ hs) (keys_on f hs n w.1.0 r w.1.1 o os), tt)
-        free_down f hs (g ∷ ds) n y d w o os od b =
-            let r = root_on' f w.0 o in
-            let q = subst (Saw deep S k Ok (f ∷ hs) n) w.1.2.0 w.1.1 in
-            let a = down_off g ds y d (aside_on f hs n g r q o os od.0) (saw_off f hs n g.at g.depth r q o os).1 w.1.2.1 od.0 od.1 in
-            (a.0.0.0, off_apart y a.0.1 (f ∷ hs) (keys_on f hs n w.1.0 r w.1.1 o os), less_deep OnDown (λ h k'. k'.depth) y d a.0.0.1 (g ∷ ds) a.1 b)
-
-  -- the answer among all linked leaves is the map's
-  all : (k : List ℕ) (r : Option ℕ) → Answer S G k [] r → NextOf (Holds S G) k (pair_of S r)
-  all k None a = λ b w (i, l, e, v). subst (λ (u : List ℕ). First u k) e (a i l tt)
-  all k (Some i) a = record {
-    has = (i, a.linked, refl, refl);
-    from = a.from;
-    least = λ b w (j, l, e, v) n f. a.least j l tt (λ g. n (subst (λ (u : List ℕ). First u k) e g)) (subst (λ (u : List ℕ). First u (S.entries i).key) (sym e) f);
-  }
+  free_all : (Ok : Hold → Type 0) → ((h : Hold) → Ok h → flux h.at → ⊥) → (hs : List Hold) → AllByRecursion Ok hs → AllByRecursion Free (map bared hs)
+  free_all Ok still [] a = tt
+  free_all Ok still (h ∷ hs) a = (still h a.0, free_all Ok still hs a.1)
 
   pub snapshot : (Ok : Hold → Type 0) (k : List ℕ) (r : Option ℕ) (w : Trail deep S k Ok r) → SoundNow Ok flux w → NextOf (Holds S G) k (pair_of S r)
   snapshot Ok k r w s =
-      let a = answer Ok k s.still w.first w.keys w.place w.sight w.downs r (root_on Ok k s.still w.first w.at_root w.at_start s.keys.0)
-      w.saw w.led w.past s.keys.0 s.keys.1 s.downs in
-      all k r (subst (λ (u : List ℕ). Answer S G k u r) (ap G.path w.at_root ∙ t.root_path) a)
+      bare_snapshot.snapshot t bytes Free k r
+      (record {
+        first = bared w.first;
+        keys = map bared w.keys;
+        downs = map bared w.downs;
+        place = w.place;
+        sight = w.sight;
+        at_root = w.at_root;
+        at_start = w.at_start;
+        saw = saw_bared deep S k Ok Free (w.first ∷ w.keys) w.place w.sight w.saw s.keys;
+        led = led_bared deep S k Ok Free w.sight w.downs r w.led s.downs;
+        past = w.past;
+      })
+      (record { keys = free_all Ok s.still (w.first ∷ w.keys) s.keys; downs = free_all Ok s.still w.downs s.downs; still = λ h f x. f x })
+
+  module _ (Ok : Hold → Type 0) (k : List ℕ) (still : (h : Hold) → Ok h → flux h.at → ⊥) where
+    -- no look of next is stale
+    pub fresh_look : (f : Hold) (hs : List Hold) → Key k → Seen deep S k Ok (on f hs [] look_key) → Ok f → AllByRecursion Ok hs → key_sight deep S k (newest f hs).at (newest f hs).depth ≡ stale → ⊥
+    fresh_look f hs key w o os e =
+        bare_snapshot.fresh_look t bytes Free k (λ h f x. f x) (bared f) (map bared hs) key (bared_root f w.0, links_bared deep S k Ok Free f hs w.1 o os) (still f o) (free_all Ok still hs os)
+        (subst (λ (h : bare.Hold). key_sight deep S k h.ref h.depth ≡ stale) (sym (newest_bared f hs)) e)
+
+    pub fresh_look_back : (f : Hold) (hs : List Hold) (n b : ℕ) → Seen deep S k Ok (on f hs [] (look_back n)) → Ok f → AllByRecursion Ok hs → back_sight deep S b (place f hs n).at (place f hs n).depth ≡ stale → ⊥
+    fresh_look_back f hs n b w o os e =
+        bare_snapshot.fresh_look_back t bytes Free k (λ h f x. f x) (bared f) (map bared hs) n b (bared_root f w.0, saw_bared deep S k Ok Free (f ∷ hs) (suc n) back w.1 (o, os)) (still f o) (free_all Ok still hs os)
+        (subst (λ (h : bare.Hold). back_sight deep S b h.ref h.depth ≡ stale) (sym (place_bared f hs n)) e)
+
+    pub fresh_look_down : (f g : Hold) (hs ds : List Hold) (n : ℕ) → Seen deep S k Ok (on f hs (g ∷ ds) (look_down n)) → Ok f → AllByRecursion Ok hs → AllByRecursion Ok (g ∷ ds)
+        → down_sight deep S (newest g ds).at (newest g ds).depth ≡ stale → ⊥
+    fresh_look_down f g hs ds n w o os od e =
+        bare_snapshot.fresh_look_down t bytes Free k (λ h f x. f x) (bared f) (bared g) (map bared hs) (map bared ds) n
+        (bared_root f w.0, (w.1.0, saw_bared deep S k Ok Free (f ∷ hs) n w.1.0 w.1.1 (o, os), (w.1.2.0, down_links_bared deep S k Ok Free g ds w.1.2.1 od.0 od.1)))
+        (still f o) (free_all Ok still hs os) (free_all Ok still (g ∷ ds) od)
+        (subst (λ (h : bare.Hold). down_sight deep S h.ref h.depth ≡ stale) (sym (newest_bared g ds)) e)
+
+    -- the node to be taken is linked, and differs from those that are held
+    pub free_key : (f : Hold) (hs : List Hold) (y : Ref) (d : ℕ) → Seen deep S k Ok (on f hs [] (take_key y d)) → Ok f → AllByRecursion Ok hs → AllByRecursion (λ h. h.depth < d) (f ∷ hs)
+        → Linked G y × AllByRecursion (λ h. h.at ≡ y → ⊥) (f ∷ hs)
+    free_key f hs y d w o os b =
+        let saw = subst (λ (n : ℕ). bare.Saw deep S k Free (bared f ∷ map bared hs) n (onward y d)) (sym (length-map hs bared)) (saw_bared deep S k Ok Free (f ∷ hs) (length hs) (onward y d) w.1 (o, os)) in
+        let a = bare_snapshot.free_key t bytes Free k (λ h f x. f x) (bared f) (map bared hs) y d (bared_root f w.0, saw) (still f o) (free_all Ok still hs os) (all_bared (λ h. h.depth < d) (f ∷ hs) b) in
+        (a.0, all_held (λ h. h.ref ≡ y → ⊥) (f ∷ hs) a.1)
+
+    pub free_down : (f : Hold) (hs ds : List Hold) (n : ℕ) (y : Ref) (d : ℕ) → Seen deep S k Ok (on f hs ds (take_down n y d)) → Ok f → AllByRecursion Ok hs → AllByRecursion Ok ds → AllByRecursion (λ h. h.depth < d) ds
+        → Linked G y × AllByRecursion (λ h. h.at ≡ y → ⊥) (f ∷ hs) × AllByRecursion (λ h. h.at ≡ y → ⊥) ds
+    free_down f hs [] n y d w o os od b =
+        let a = bare_snapshot.free_down t bytes Free k (λ h f x. f x) (bared f) (map bared hs) [] n y d
+        (bared_root f w.0, (w.1.0, saw_bared deep S k Ok Free (f ∷ hs) n w.1.0 w.1.1 (o, os), w.1.2)) (still f o) (free_all Ok still hs os) tt tt in
+        (a.0, all_held (λ h. h.ref ≡ y → ⊥) (f ∷ hs) a.1, tt)
+    free_down f hs (g ∷ ds) n y d w o os od b =
+        let a = bare_snapshot.free_down t bytes Free k (λ h f x. f x) (bared f) (map bared hs) (map bared (g ∷ ds)) n y d
+        (bared_root f w.0, (w.1.0, saw_bared deep S k Ok Free (f ∷ hs) n w.1.0 w.1.1 (o, os), (w.1.2.0, saw_down_bared deep S k Ok Free g ds (aside y d) w.1.2.1 od.0 od.1)))
+        (still f o) (free_all Ok still hs os) (free_all Ok still (g ∷ ds) od) (all_bared (λ h. h.depth < d) (g ∷ ds) b) in
+        (a.0, all_held (λ h. h.ref ≡ y → ⊥) (f ∷ hs) a.1, all_held (λ h. h.ref ≡ y → ⊥) (g ∷ ds) a.2)
 
 pub snapshot_stands : Snapshot
 snapshot_stands = λ deep key flux ok S G k r t b w s. snapshot t b (λ (h : Hold). T (ok h)) k r w s

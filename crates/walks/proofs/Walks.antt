@@ -7,7 +7,8 @@ use Rattle.model.specs.Tree.{Tree}
 use Rattle.model_next.specs.Look.{Sight, stale, back, onward, aside, got, key_sight, back_sight, down_sight, past}
 use Rattle.walks.specs.Look.{taken, Saw, SawDown, Led}
 use Rattle.walks.specs.Next.{Trail}
-use Rattle.walks.specs.Walk.{Stage, take_key, check_key, look_key, look_back, take_down, check_down, look_down, scan, Walk, start, on, newest, place, hold, AtRoot, leaves, looked, looked_down, Goes, Links, DownLinks, DownOpen, DownTo, SeenAt, Seen, Stays, HeldStays}
+use Rattle.model_next.specs.Walk.{Stage, take_key, check_key, look_key, look_back, take_down, check_down, look_down, scan}
+use Rattle.walks.specs.Walk.{Walk, start, on, newest, place, hold, AtRoot, leaves, looked, looked_down, Goes, Links, DownLinks, DownOpen, DownTo, SeenAt, Seen, Stays, HeldStays}
 use Rattle.model_next.proofs.Views.{back_view, picked_not}
 
 module _ (deep : ℕ) (S : Tree) (k : List ℕ) (Ok : Hold → Type 0) where

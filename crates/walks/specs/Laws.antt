@@ -8,7 +8,8 @@ use Rattle.model_next.specs.Look.{stale, key_sight, back_sight, down_sight}
 use Rattle.walks.specs.Look.{taken}
 use Rattle.model_next.specs.Next.{NextOf, pair_of}
 use Rattle.model_next.specs.Laws.{Good}
-use Rattle.walks.specs.Walk.{Walk, on, look_key, look_back, look_down, scan, newest, place, Goes, Seen, Stays, HeldStays}
+use Rattle.model_next.specs.Walk.{look_key, look_back, look_down, scan}
+use Rattle.walks.specs.Walk.{Walk, on, newest, place, Goes, Seen, Stays, HeldStays}
 
 -- a permit at place i or behind it is not sound
 abbrev pub Bad : (Hold → Bool) → List Hold → ℕ → Type 0

@@ -5,18 +5,9 @@ use Rattle.model.specs.Holds.{Grip, Hold}
 use Rattle.model.specs.Refs.{Ref, root}
 use Rattle.model.specs.Tree.{Tree}
 use Rattle.model_next.specs.Look.{Sight, stale, back, onward, aside, got, key_sight, back_sight, down_sight}
+use Rattle.model_next.specs.Walk.{Stage, take_key, check_key, look_key, look_back, take_down, check_down, look_down, scan}
 use Rattle.walks.specs.Look.{taken, Saw, SawDown, Led}
 use Rattle.model_next.specs.Next.{Past}
-
--- A take names the node to take. Going back looks at a place of the key's way. A way down remembers the place that it left the key's way at.
--- A scan has that place, the permit to check, and the result.
-pub data Stage : Type 0 where
-  take_key : Ref → ℕ → Stage
-  check_key look_key : Stage
-  look_back : ℕ → Stage
-  take_down : ℕ → Ref → ℕ → Stage
-  check_down look_down : ℕ → Stage
-  scan : ℕ → ℕ → Option ℕ → Stage
 
 -- the first node held, the others on the key's way, and those on the way down, oldest first
 pub data Walk : Type 0 where
