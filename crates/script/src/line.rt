@@ -86,7 +86,7 @@ impl Line {
             }
             Reply::Refused(refusal) => {
                 self.put(b"no ");
-                self.put_decimal(u32::from(refusal.number()));
+                self.put_decimal(u32::from(u8::from(refusal)));
             }
         }
     }
@@ -107,9 +107,9 @@ impl Line {
         ensures { line_text self.new ≡ line_text self.old ++ clash_words clash }
     {
         self.put(b"again ");
-        self.put_decimal(u32::from(clash.cause.number()));
+        self.put_decimal(u32::from(u8::from(clash.cause)));
         self.put(b" ");
-        self.put_decimal(u32::from(clash.kind.number()));
+        self.put_decimal(u32::from(u16::from(clash.kind)));
         self.put(b" ");
         self.put_decimal(u32::from(clash.slot));
         self.put(b" ");
@@ -133,7 +133,7 @@ impl Line {
             }
             Answer::NoRoom(kind) => {
                 self.put(b"noroom ");
-                self.put_decimal(u32::from(kind.number()));
+                self.put_decimal(u32::from(u16::from(kind)));
             }
         }
     }

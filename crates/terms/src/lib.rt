@@ -10,7 +10,7 @@ ghost use Rattle.terms.specs.Numbers.{refusal_number, cause_number, kind_number}
 pub use outcome::{Answer, Clash, Outcome};
 
 /// Why a call was refused. A refused call leaves everything as it was.
-#[derive(Clone, Copy)]
+#[derive(Clone, Copy, Debug, PartialEq, Eq)]
 pub enum Refusal {
     /// The seat's number is above 7.
     NoSuchSeat,
@@ -34,11 +34,11 @@ pub enum Refusal {
     ScriptLength,
 }
 
-impl Refusal {
-    pub fn number(self) -> u8
-        ensures { result ≡ refusal_number self }
-    {
-        match self {
+impl From<Refusal> for u8 {
+    ghost from_gives = { λ refusal n. n ≡ refusal_number refusal };
+
+    fn from(refusal: Refusal) -> u8 {
+        match refusal {
             Refusal::NoSuchSeat => 1,
             Refusal::NotOpen => 2,
             Refusal::AlreadyOpen => 3,
@@ -54,7 +54,7 @@ impl Refusal {
 }
 
 /// Why a latch refused.
-#[derive(Clone, Copy)]
+#[derive(Clone, Copy, Debug, PartialEq, Eq)]
 pub enum Cause {
     /// The node was taken out of the tree.
     Gone,
@@ -66,11 +66,11 @@ pub enum Cause {
     Shared,
 }
 
-impl Cause {
-    pub fn number(self) -> u8
-        ensures { result ≡ cause_number self }
-    {
-        match self {
+impl From<Cause> for u8 {
+    ghost from_gives = { λ cause n. n ≡ cause_number cause };
+
+    fn from(cause: Cause) -> u8 {
+        match cause {
             Cause::Gone => 1,
             Cause::Locked => 2,
             Cause::Changed => 3,
@@ -80,7 +80,7 @@ impl Cause {
 }
 
 /// What a slot holds: a leaf, or a node with room for that many children.
-#[derive(Clone, Copy)]
+#[derive(Clone, Copy, Debug, PartialEq, Eq)]
 pub enum Kind {
     Leaf,
     Node4,
@@ -89,11 +89,11 @@ pub enum Kind {
     Node256,
 }
 
-impl Kind {
-    pub fn number(self) -> u16
-        ensures { result ≡ kind_number self }
-    {
-        match self {
+impl From<Kind> for u16 {
+    ghost from_gives = { λ kind n. n ≡ kind_number kind };
+
+    fn from(kind: Kind) -> u16 {
+        match kind {
             Kind::Leaf => 1,
             Kind::Node4 => 4,
             Kind::Node16 => 16,

@@ -1,7 +1,7 @@
 use crate::{Cause, Kind};
 
 /// What an operation answered.
-#[derive(Clone, Copy)]
+#[derive(Clone, Copy, Debug, PartialEq, Eq)]
 pub enum Answer {
     /// A find found the key, with this value.
     Found(u32),
@@ -16,7 +16,7 @@ pub enum Answer {
 }
 
 /// A refusal that an operation met on its way: the cause, and the node with the count of key bytes before it.
-#[derive(Clone, Copy)]
+#[derive(Clone, Copy, Debug, PartialEq, Eq)]
 pub struct Clash {
     pub cause: Cause,
     pub kind: Kind,
@@ -25,7 +25,7 @@ pub struct Clash {
 }
 
 /// What one step of an operation came to.
-#[derive(Clone, Copy)]
+#[derive(Clone, Copy, Debug, PartialEq, Eq)]
 pub enum Outcome {
     /// The operation goes on.
     Go,
