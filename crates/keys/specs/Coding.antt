@@ -2,12 +2,12 @@
 use Rattle.std.specs.Prelude.{◌≡◌, ℕ, Bool, List, Ok, Err, Decides, Result, ◌≢◌}
 use Rattle.terms.specs.declared.Refusal.{Refusal}
 use Rattle.terms.specs.Numbers.{refusal_number}
-use Rattle.keys.specs.Codes.{coded}
-use Rattle.keys.specs.declared.code.Code.{Code}
+use Rattle.inline_bytes.specs.Held.{bytes_of}
+use Rattle.keys.specs.Room.{Code}
 
 -- a key's bytes if it is accepted, else refusal 6
 abbrev pub Coded : {K : Type 0} → (K → Type 0) → (K → List ℕ) → K → Result Code Refusal → Type 0
-Coded accepts bytes k (Ok c) = accepts k × (coded c ≡ bytes k)
+Coded accepts bytes k (Ok c) = accepts k × (bytes_of c ≡ bytes k)
 Coded accepts bytes k (Err e) = (refusal_number e ≡ 6) × (accepts k → ⊥)
 
 -- the key that has these bytes, or refusal 6 where none has them

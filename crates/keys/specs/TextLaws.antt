@@ -1,15 +1,15 @@
-use Rattle.std.specs.Prelude.{◌≡◌, ℕ, ◌-◌, ◌<◌, Bool, true, false, not, List, [], ◌∷◌, ◌++◌, length, drop, replicate, Decides, ◌≢◌, slice_index, refl}
-use Rattle.std.proofs.Common.{sym, ap, ap₂, ◌∙◌, inl, inr, arith, length-take, take-append-drop}
+use Rattle.std.specs.Prelude.{◌≡◌, ℕ, ◌<◌, Bool, true, false, not, List, [], ◌∷◌, ◌++◌, length, Decides, ◌≢◌, slice_index, refl}
+use Rattle.std.proofs.Common.{ap, ◌∙◌, inl, inr, arith}
 use Rattle.std.specs.List.{ContainsAt as Has, AllByRecursion}
 use Rattle.std.proofs.ByRecursion.{all-has, All-from_get_or}
 use Rattle.std.proofs.lemmas.List.{same_from_push, length_push, get_or_default}
 use Rattle.std.proofs.lemmas.Bool.{false≢true}
+use Rattle.inline_bytes.specs.Same.{same_bytes}
 use Rattle.keys.specs.Bytes.{First}
 use Rattle.keys.specs.Laws.{Lawful}
-use Rattle.keys.specs.Room.{longest_key, text_room}
+use Rattle.keys.specs.Room.{longest_key}
 use Rattle.keys.specs.Texts.{Accepted, Earlier, Plain, spelled, text_bytes}
 use Rattle.keys.specs.declared.text.Text.{Text}
-use Rattle.keys.specs.contracts.text.Text as text
 
 -- no byte is 00
 abbrev Filled : List ℕ → Type 0
@@ -44,17 +44,8 @@ ended_apart (x ∷ s) (y ∷ t) u h k e =
     cc
 
 -- a text is its bytes
-length_spelled : (t : Text) → length (spelled t) ≡ t.len
-length_spelled t = simp length-take (omega (arith, t.fits, t.whole))
-
-same_fields : (a b : Text) → a.bytes ≡ b.bytes → a.len ≡ b.len → a ≡ b
-same_fields a b p q = (text.the_row).coded.inj a b (cc)
-
 same_text : (a b : Text) → spelled a ≡ spelled b → a ≡ b
-same_text a b e =
-    let n : a.len ≡ b.len = sym (length_spelled a) ∙ ap length e ∙ length_spelled b in
-    let d : drop a.len a.bytes ≡ drop b.len b.bytes = a.clear ∙ ap (λ k. replicate (text_room - k) 0) n ∙ sym b.clear in
-    same_fields a b (sym (take-append-drop a.len a.bytes) ∙ ap₂ ◌++◌ e d ∙ take-append-drop b.len b.bytes) n
+same_text a b e = ap (λ s. record { bytes = s }) (same_bytes a.bytes b.bytes e)
 
 pub text_lawful : Lawful Accepted Earlier text_bytes longest_key
 text_lawful = record {

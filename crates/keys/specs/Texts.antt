@@ -1,14 +1,15 @@
-use Rattle.std.specs.Prelude.{◌≡◌, ℕ, ◌<◌, List, [], ◌∷◌, ◌++◌, length, take, Ok, Err, Result}
+use Rattle.std.specs.Prelude.{◌≡◌, ℕ, ◌<◌, List, [], ◌∷◌, ◌++◌, length, Ok, Err, Result}
 use Rattle.std.specs.List.{AllByRecursion}
 use Rattle.terms.specs.declared.Refusal.{Refusal}
 use Rattle.terms.specs.Numbers.{refusal_number}
+use Rattle.inline_bytes.specs.Held.{bytes_of}
 use Rattle.keys.specs.Bytes.{First}
 use Rattle.keys.specs.Room.{longest_key, text_room}
 use Rattle.keys.specs.declared.text.Text.{Text}
 
 -- the bytes of a text
 abbrev pub spelled : Text → List ℕ
-spelled t = take t.len t.bytes
+spelled t = bytes_of t.bytes
 
 -- the text of these bytes, or refusal 6 where they are more than a text holds
 abbrev pub Made : List ℕ → Result Text Refusal → Type 0

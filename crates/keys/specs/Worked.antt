@@ -3,16 +3,16 @@ use Rattle.std.specs.Prelude.{◌≡◌, ℕ, ◌<◌, List, [], ◌∷◌, leng
 use Rattle.std.specs.List.{AllByRecursion}
 use Rattle.terms.specs.declared.Refusal.{Refusal}
 use Rattle.terms.specs.Numbers.{refusal_number}
-use Rattle.keys.specs.declared.code.Code.{Code}
+use Rattle.keys.specs.Room.{Code}
 use Rattle.keys.specs.declared.text.Text.{Text}
-use Rattle.keys.specs.Codes.{coded}
+use Rattle.inline_bytes.specs.Held.{bytes_of}
 use Rattle.keys.specs.Coding.{Coded}
 use Rattle.keys.specs.Numbers.{Signed32, number_bytes}
 use Rattle.keys.specs.Texts.{Accepted, spelled, text_bytes}
 
 -- r is a code of just these bytes
 abbrev pub Gives : Result Code Refusal → List ℕ → Type 0
-Gives (Ok c) s = coded c ≡ s
+Gives (Ok c) s = bytes_of c ≡ s
 Gives (Err e) s = ⊥
 
 abbrev pub Passes : Result Code Refusal → Type 0

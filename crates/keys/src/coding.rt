@@ -1,9 +1,8 @@
-ghost use Rattle.std.specs.Prelude.{◌≡◌, ℕ, List};
+ghost use Rattle.std.specs.Prelude.{ℕ, List};
 ghost use Rattle.keys.specs.Coding.{Coded, Decoded, Back, SameKey, Placed};
 ghost use Rattle.keys.specs.Laws.{Lawful};
 
 use crate::code::Code;
-use crate::codes::first;
 use terms::Refusal;
 
 /// A coding of keys as bytes.
@@ -16,7 +15,7 @@ pub trait Coding {
     /// The most bytes of a key of this coding.
     const LONGEST: usize;
 
-    ghost longest: { ℕ };
+    ghost LONGEST: { ℕ };
 
     ghost accepts: { Self.Key → Type 0 };
 
@@ -24,17 +23,13 @@ pub trait Coding {
 
     ghost bytes: { Self.Key → List ℕ };
 
-    /// The constant, where only the trait is known.
-    fn most_bytes() -> usize
-        ensures { result ≡ longest };
-
     fn encode(key: Self::Key) -> Result<Code, Refusal>
         ensures { Coded accepts bytes key result };
 
     fn decode(coded: &[u8]) -> Result<Self::Key, Refusal>
         ensures { Decoded accepts bytes coded.now result };
 
-    ghost lawful: { Lawful accepts before bytes longest };
+    ghost lawful: { Lawful accepts before bytes LONGEST };
 }
 
 /// Codes a key and decodes it again.
@@ -51,7 +46,7 @@ pub fn same_key<C: Coding>(a: C::Key, b: C::Key) -> Result<bool, Refusal>
 {
     let x = C::encode(a)?;
     let y = C::encode(b)?;
-    Ok(x.same(&y))
+    Ok(x == y)
 }
 
 /// Whether one key comes before another, by their bytes.
@@ -60,5 +55,5 @@ pub fn comes_before<C: Coding>(a: C::Key, b: C::Key) -> Result<bool, Refusal>
 {
     let x = C::encode(a)?;
     let y = C::encode(b)?;
-    Ok(first(x.as_slice(), y.as_slice()))
+    Ok(x.as_slice() < y.as_slice())
 }

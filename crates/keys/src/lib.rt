@@ -3,7 +3,6 @@
 #![tactic(auto)]
 
 mod code;
-mod codes;
 mod coding;
 mod numbers;
 mod text;
@@ -11,7 +10,6 @@ mod texts;
 mod worked;
 
 pub use code::{Code, LONGEST_KEY};
-pub use codes::first;
 pub use coding::{Coding, comes_before, round_trip, same_key};
 pub use numbers::Numbers;
 pub use text::Text;

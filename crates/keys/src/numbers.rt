@@ -14,7 +14,7 @@ impl Coding for Numbers {
 
     const LONGEST: usize = 4;
 
-    ghost longest = { 4 };
+    ghost LONGEST = { 4 };
 
     ghost accepts = { Signed32 };
 
@@ -24,12 +24,9 @@ impl Coding for Numbers {
 
     ghost lawful = { number_lawful };
 
-    fn most_bytes() -> usize {
-        Self::LONGEST
-    }
-
     fn encode(key: i32) -> Result<Code, Refusal> {
-        Ok(Code::of(&(key.cast_unsigned() ^ 0x8000_0000).to_be_bytes()))
+        let bytes = (key.cast_unsigned() ^ 0x8000_0000).to_be_bytes();
+        Ok(Code::new(&bytes).unwrap())
     }
 
     fn decode(coded: &[u8]) -> Result<i32, Refusal> {

@@ -1,11 +1,11 @@
-ghost use Rattle.std.specs.Prelude.{◌≡◌, ◌≤◌, length, Decides};
-ghost use Rattle.keys.specs.Room.{text_room};
+ghost use Rattle.std.specs.Prelude.{◌≡◌, Decides};
 ghost use Rattle.keys.specs.Texts.{Accepted, Earlier, Plain, Made, spelled, text_bytes};
 ghost use Rattle.keys.specs.TextLaws.{text_lawful};
 
 use crate::code::{Code, LONGEST_KEY};
 use crate::coding::Coding;
-use crate::text::{TEXT_ROOM, Text};
+use crate::text::Text;
+use inline_bytes::InlineBytes;
 use terms::Refusal;
 
 impl Text {
@@ -13,28 +13,14 @@ impl Text {
     pub fn new(bytes: &[u8]) -> Result<Text, Refusal>
         ensures { Made bytes.now result }
     {
-        if bytes.len() > TEXT_ROOM {
-            return Err(Refusal::Key);
-        }
-        Ok(Text::of(bytes))
-    }
-
-    pub(crate) fn of(from: &[u8]) -> Text
-        requires { length from.now ≤ text_room }
-        ensures { spelled result ≡ from.now }
-    {
-        let mut bytes = [0; TEXT_ROOM];
-        bytes[0..from.len()].copy_from_slice(from);
-        Text {
-            bytes,
-            len: from.len(),
-        }
+        let bytes = InlineBytes::new(bytes).ok_or(Refusal::Key)?;
+        Ok(Text { bytes })
     }
 
     pub fn as_slice(&self) -> &[u8]
         ensures { result.now ≡ spelled self.now }
     {
-        &self.bytes[0..self.len]
+        self.bytes.as_slice()
     }
 }
 
@@ -53,7 +39,7 @@ impl Coding for Texts {
 
     const LONGEST: usize = LONGEST_KEY;
 
-    ghost longest = { 16 };
+    ghost LONGEST = { 16 };
 
     ghost accepts = { Accepted };
 
@@ -63,24 +49,19 @@ impl Coding for Texts {
 
     ghost lawful = { text_lawful };
 
-    fn most_bytes() -> usize {
-        Self::LONGEST
-    }
-
     fn encode(key: Text) -> Result<Code, Refusal> {
         if !is_plain(key.as_slice()) {
             return Err(Refusal::Key);
         }
-        Ok(Code::of(key.as_slice()).then(0))
+        let mut code = Code::new(key.as_slice()).unwrap();
+        code.push(0).unwrap();
+        Ok(code)
     }
 
     fn decode(coded: &[u8]) -> Result<Text, Refusal> {
-        let Some((last, front)) = coded.split_last() else {
-            return Err(Refusal::Key);
-        };
-        if *last != 0 || !is_plain(front) {
-            return Err(Refusal::Key);
+        match coded {
+            [front @ .., 0] if is_plain(front) => Text::new(front),
+            _ => Err(Refusal::Key),
         }
-        Ok(Text::of(front))
     }
 }
