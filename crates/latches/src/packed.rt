@@ -58,9 +58,10 @@ fn next_count(count: u64) -> u64
     ensures next { count < 2 ^ 50 → result ≡ count + 1 }
     ensures room { result < 2 ^ 52 }
 {
-    if count < LAST_COUNT { count + 1 } else { count }
+    (count + 1).min(LAST_COUNT)
 }
 
+// One latch for every packing.
 impl<P: Packing> Latch for P {
     const WEIGHT: u64 = P::WEIGHT;
 
