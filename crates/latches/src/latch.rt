@@ -1,4 +1,4 @@
-ghost use Rattle.std.specs.Prelude.{◌≡◌, ◌≤◌};
+ghost use Rattle.std.specs.Prelude.{◌≡◌, ℕ, ◌≤◌};
 ghost use Rattle.latches.specs.declared.word.Permit.{Permit};
 ghost use Rattle.latches.specs.declared.word.Word.{Word};
 ghost use Rattle.latches.specs.Rules.{Face, Took, Passed, Held, Returned, Freed, FreedGone, Revived, zero_word, fresh, most_shares};
@@ -19,15 +19,11 @@ pub trait Latch {
     /// How many shares may be out.
     const LIMIT: u64;
 
+    ghost WEIGHT: { ℕ };
+
+    ghost LIMIT: { ℕ };
+
     ghost face: { Face };
-
-    /// What this permit weighs.
-    fn weight_of(permit: Permit) -> u64
-        ensures { result ≡ face.weight permit };
-
-    /// The constant, where only the trait is known.
-    fn most() -> u64
-        ensures { result ≡ face.limit };
 
     /// A permit, together with the word that knows of it.
     fn take(word: Word) -> Result<(Word, Permit), Cause>
@@ -56,6 +52,10 @@ pub trait Latch {
     /// Makes a word ready for a node that joins the tree.
     fn revive(word: Word) -> Word
         ensures { Revived face word result };
+
+    ghost weighs: { (p : Permit) → face.weight p ≡ WEIGHT };
+
+    ghost bounded: { face.limit ≡ LIMIT };
 
     ghost light: { (p : Permit) → face.weight p ≤ 1 };
 

@@ -1,33 +1,54 @@
-//! The calls of every latch that packs a word's meaning into its bits:
+//! The latch that packs a word's meaning into its bits:
 //! from the lowest, 1 bit locked, 1 bit gone, 10 bits of shares, 52 bits of count.
 
-ghost use Rattle.std.specs.Prelude.{◌≡◌, ◌+◌, ◌^◌, ◌<◌, ◌≤◌};
+ghost use Rattle.std.specs.Prelude.{◌≡◌, ℕ, ◌+◌, ◌^◌, ◌<◌, ◌≤◌, refl};
+ghost use Rattle.std.proofs.Common.{rules};
 ghost use Rattle.latches.specs.Layout.{meant, packed_face};
-ghost use Rattle.latches.specs.Rules.{Took, Passed, Held, Returned, Freed, FreedGone, Revived};
+ghost use Rattle.latches.specs.Rules.{most_shares};
 
+use crate::latch::Latch;
 use crate::word::{Meaning, Permit, Word};
 use terms::Cause;
 
 const LAST_COUNT: u64 = (1 << 52) - 1;
 
-fn unpack(word: Word, limit: u64) -> Meaning
-    ensures { result ≡ meant limit word }
+/// How a packed word counts its readers.
+pub trait Packing {
+    /// What a permit adds to the shares.
+    const WEIGHT: u64;
+
+    /// How many shares may be out.
+    const LIMIT: u64;
+
+    ghost WEIGHT: { ℕ };
+
+    ghost LIMIT: { ℕ };
+
+    ghost light: { WEIGHT ≤ 1 };
+
+    ghost some: { 1 ≤ LIMIT };
+
+    ghost few: { LIMIT ≤ most_shares };
+}
+
+fn unpack<P: Packing>(word: Word) -> Meaning
+    ensures { result ≡ meant P.LIMIT word }
 {
     let bits = word.bits;
     Meaning {
         locked: bits % 2 == 1,
         gone: bits / 2 % 2 == 1,
-        shares: (bits / 4 % 1024).min(limit),
+        shares: (bits / 4 % 1024).min(P::LIMIT),
         count: bits / 4096,
     }
 }
 
-fn pack(m: Meaning, limit: u64) -> Word
-    requires { (m.shares ≤ limit) × ((limit < 1024) × (m.count < 2 ^ 52)) }
-    ensures { meant limit result ≡ m }
+fn pack<P: Packing>(m: Meaning) -> Word
+    requires { (m.shares ≤ P.LIMIT) × (m.count < 2 ^ 52) }
+    ensures { meant P.LIMIT result ≡ m }
 {
     Word {
-        bits: m.count * 4096 + m.shares * 4 + (m.gone as u64) * 2 + m.locked as u64,
+        bits: m.count * 4096 + m.shares * 4 + u64::from(m.gone) * 2 + u64::from(m.locked),
     }
 }
 
@@ -37,126 +58,115 @@ fn next_count(count: u64) -> u64
     ensures next { count < 2 ^ 50 → result ≡ count + 1 }
     ensures room { result < 2 ^ 52 }
 {
-    if count < LAST_COUNT { count + 1 } else { count }
+    (count + 1).min(LAST_COUNT)
 }
 
-pub fn take(word: Word, weight: u64, limit: u64) -> Result<(Word, Permit), Cause>
-    requires { (weight ≤ 1) × (limit < 1024) }
-    ensures { Took (packed_face weight limit) word result }
-{
-    let m = unpack(word, limit);
-    if m.gone {
-        Err(Cause::Gone)
-    } else if m.locked {
-        Err(Cause::Locked)
-    } else if m.shares == limit {
-        Err(Cause::Shared)
-    } else {
-        let taken = pack(
-            Meaning {
-                shares: m.shares + weight,
+// One latch for every packing.
+impl<P: Packing> Latch for P {
+    const WEIGHT: u64 = P::WEIGHT;
+
+    const LIMIT: u64 = P::LIMIT;
+
+    ghost WEIGHT = { P.WEIGHT };
+
+    ghost LIMIT = { P.LIMIT };
+
+    ghost face = { packed_face P.WEIGHT P.LIMIT };
+
+    fn take(word: Word) -> Result<(Word, Permit), Cause> {
+        let m = unpack::<P>(word);
+        if m.gone {
+            Err(Cause::Gone)
+        } else if m.locked {
+            Err(Cause::Locked)
+        } else if m.shares == P::LIMIT {
+            Err(Cause::Shared)
+        } else {
+            let taken = pack::<P>(Meaning {
+                shares: m.shares + P::WEIGHT,
                 ..m
-            },
-            limit,
-        );
-        Ok((taken, Permit { count: m.count }))
+            });
+            Ok((taken, Permit { count: m.count }))
+        }
     }
-}
 
-pub fn check(word: Word, permit: Permit, weight: u64, limit: u64) -> Result<(), Cause>
-    ensures { Passed (packed_face weight limit) word permit result }
-{
-    let m = unpack(word, limit);
-    if m.gone {
-        Err(Cause::Gone)
-    } else if m.locked {
-        Err(Cause::Locked)
-    } else if m.count != permit.count {
-        Err(Cause::Changed)
-    } else {
-        Ok(())
+    fn check(word: Word, permit: Permit) -> Result<(), Cause> {
+        let m = unpack::<P>(word);
+        if m.gone {
+            Err(Cause::Gone)
+        } else if m.locked {
+            Err(Cause::Locked)
+        } else if m.count != permit.count {
+            Err(Cause::Changed)
+        } else {
+            Ok(())
+        }
     }
-}
 
-pub fn lock(word: Word, permit: Permit, weight: u64, limit: u64) -> Result<Word, Cause>
-    requires { limit < 1024 }
-    ensures { Held (packed_face weight limit) word permit result }
-{
-    check(word, permit, weight, limit)?;
-    let m = unpack(word, limit);
-    if m.shares > weight {
-        return Err(Cause::Shared);
-    }
-    Ok(pack(
-        Meaning {
+    fn lock(word: Word, permit: Permit) -> Result<Word, Cause> {
+        Self::check(word, permit)?;
+        let m = unpack::<P>(word);
+        if m.shares > P::WEIGHT {
+            return Err(Cause::Shared);
+        }
+        Ok(pack::<P>(Meaning {
             locked: true,
             shares: 0,
             ..m
-        },
-        limit,
-    ))
-}
+        }))
+    }
 
-pub fn give_back(word: Word, permit: Permit, weight: u64, limit: u64) -> Word
-    requires { limit < 1024 }
-    ensures { Returned (packed_face weight limit) word permit result }
-{
-    let m = unpack(word, limit);
-    pack(
-        Meaning {
-            shares: m.shares.saturating_sub(weight),
+    fn give_back(word: Word, permit: Permit) -> Word {
+        let m = unpack::<P>(word);
+        pack::<P>(Meaning {
+            shares: m.shares.saturating_sub(P::WEIGHT),
             ..m
-        },
-        limit,
-    )
-}
+        })
+    }
 
-pub fn unlock(word: Word, weight: u64, limit: u64) -> Word
-    requires { limit < 1024 }
-    ensures { Freed (packed_face weight limit) word result }
-{
-    let m = unpack(word, limit);
-    pack(
-        Meaning {
+    fn unlock(word: Word) -> Word {
+        let m = unpack::<P>(word);
+        pack::<P>(Meaning {
             locked: false,
             count: next_count(m.count),
             ..m
-        },
-        limit,
-    )
-}
+        })
+    }
 
-pub fn unlock_gone(word: Word, weight: u64, limit: u64) -> Word
-    requires { limit < 1024 }
-    ensures { FreedGone (packed_face weight limit) word result }
-{
-    let m = unpack(word, limit);
-    pack(
-        Meaning {
+    fn unlock_gone(word: Word) -> Word {
+        let m = unpack::<P>(word);
+        pack::<P>(Meaning {
             locked: false,
             gone: true,
             count: next_count(m.count),
             ..m
-        },
-        limit,
-    )
-}
+        })
+    }
 
-pub fn revive(word: Word, weight: u64, limit: u64) -> Word
-    requires { limit < 1024 }
-    ensures { Revived (packed_face weight limit) word result }
-{
-    let m = unpack(word, limit);
-    if m.gone {
-        pack(
-            Meaning {
+    fn revive(word: Word) -> Word {
+        let m = unpack::<P>(word);
+        if m.gone {
+            pack::<P>(Meaning {
                 gone: false,
                 count: next_count(m.count),
                 ..m
-            },
-            limit,
-        )
-    } else {
-        word
+            })
+        } else {
+            word
+        }
     }
+
+    ghost weighs = { λ _. refl };
+
+    ghost bounded = { refl };
+
+    ghost light = { λ _. P.light };
+
+    ghost some = { P.some };
+
+    ghost few = { P.few };
+
+    ghost within = { Prim.search rules };
+
+    ghost starts = { Prim.search rules };
 }

@@ -2,7 +2,7 @@ ghost use Rattle.std.specs.Prelude.{◌≡◌};
 ghost use Rattle.latches.specs.Rules.{zero_word};
 
 /// A node's word. Only a latch reads or writes it.
-#[derive(Clone, Copy)]
+#[derive(Clone, Copy, Debug, Default, PartialEq, Eq)]
 pub struct Word {
     pub(crate) bits: u64,
 }
@@ -17,7 +17,7 @@ impl Word {
 }
 
 /// What a word means.
-#[derive(Clone, Copy)]
+#[derive(Clone, Copy, Debug, PartialEq, Eq)]
 pub struct Meaning {
     pub locked: bool,
     pub gone: bool,
@@ -26,7 +26,7 @@ pub struct Meaning {
 }
 
 /// Leave to read a node, by the count that its word had.
-#[derive(Clone, Copy)]
+#[derive(Clone, Copy, Debug, PartialEq, Eq)]
 pub struct Permit {
     pub(crate) count: u64,
 }
