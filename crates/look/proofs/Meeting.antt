@@ -43,11 +43,6 @@ goes_of (a ∷ p) (b ∷ r) zero h l m = absurd (omega arith)
 goes_of (a ∷ p) (b ∷ r) (suc i) h l m =
     let t = tails a b p r i h in more a b p r (Goes (get_or r i 0)) t.0 (goes_of p r i t.1 (omega arith) (omega arith))
 
-pub nothing_left : (p r : List ℕ) → length r ≤ 0 → meet p r ≡ Ends
-nothing_left [] [] l = refl
-nothing_left (a ∷ p) [] l = refl
-nothing_left p (b ∷ r) l = absurd (omega arith)
-
 -- where the two differ, both have a byte
 abbrev Inside : List ℕ → List ℕ → Met → Type 0
 Inside p r (Parts i) = (i < length p) × (i < length r)

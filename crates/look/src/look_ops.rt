@@ -1,5 +1,5 @@
 ghost use Rattle.std.specs.Prelude.{◌≡◌, drop};
-ghost use Rattle.keys.specs.Codes.{coded};
+ghost use Rattle.inline_bytes.specs.Held.{bytes_of};
 ghost use Rattle.look.specs.Look.{meet, rank, looked};
 ghost use Rattle.nodes.specs.Kept.{kept};
 
@@ -7,38 +7,35 @@ use crate::seen::{Met, Rank, Seen};
 use keys::{Code, LONGEST_KEY};
 use nodes::{Branch, Child, Prefix};
 
+// The key's bytes from `d` on.
+fn rest_of(key: &Code, d: usize) -> &[u8]
+    ensures { result.now ≡ drop d (bytes_of key.now) }
+{
+    key.as_slice().get(d..).unwrap_or(&[])
+}
+
 /// How the prefix meets `key` from `d` on.
 pub fn meets(prefix: &Prefix, key: &Code, d: usize) -> Met
-    ensures { result ≡ meet (kept prefix.now) (drop d (coded key.now)) }
+    ensures { result ≡ meet (kept prefix.now) (drop d (bytes_of key.now)) }
 {
-    let bytes = key.as_slice();
-    let end = bytes.len();
-    if d >= end {
-        return Met::Ends;
-    }
-    let i = prefix.agrees(bytes, d);
-    if d + i >= end {
+    let rest = rest_of(key, d);
+    let i = prefix.agrees(rest, 0);
+    if i >= rest.len() {
         Met::Ends
     } else if i < prefix.len() {
         Met::Parts(i)
     } else {
-        Met::Goes(bytes[d + i])
+        Met::Goes(rest[i])
     }
 }
 
 /// The order of the prefix and `key` from `d` on.
 pub fn ranks(prefix: &Prefix, key: &Code, d: usize) -> Rank
-    ensures { result ≡ rank (kept prefix.now) (drop d (coded key.now)) }
+    ensures { result ≡ rank (kept prefix.now) (drop d (bytes_of key.now)) }
 {
     match meets(prefix, key, d) {
-        Met::Parts(i) => {
-            let rest = &key.as_slice()[d..];
-            if prefix.at(i) < rest[i] {
-                Rank::Smaller
-            } else {
-                Rank::Larger
-            }
-        }
+        Met::Parts(i) if prefix.at(i) < rest_of(key, d)[i] => Rank::Smaller,
+        Met::Parts(_) => Rank::Larger,
         Met::Ends => Rank::Ended,
         Met::Goes(byte) => Rank::Same(byte),
     }
@@ -46,7 +43,7 @@ pub fn ranks(prefix: &Prefix, key: &Code, d: usize) -> Rank
 
 /// A look at a node for `key`, `d` of whose bytes come before the prefix.
 pub fn look<B: Branch>(prefix: &Prefix, node: &B, key: &Code, d: usize) -> Seen
-    ensures { result ≡ looked (kept prefix.now) (B.Branch.view node.now) (coded key.now) d }
+    ensures { result ≡ looked (kept prefix.now) (B.Branch.view node.now) (bytes_of key.now) d }
 {
     let len = prefix.len();
     if d >= LONGEST_KEY - len {

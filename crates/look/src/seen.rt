@@ -1,7 +1,7 @@
 use nodes::NodeKind;
 
 /// How a prefix meets the rest of a key.
-#[derive(Clone, Copy)]
+#[derive(Clone, Copy, Debug, PartialEq, Eq)]
 pub enum Met {
     /// They differ first at this place.
     Parts(usize),
@@ -27,7 +27,7 @@ pub enum Seen {
 }
 
 /// How a prefix stands to the rest of a key, in byte order.
-#[derive(Clone, Copy)]
+#[derive(Clone, Copy, Debug, PartialEq, Eq)]
 pub enum Rank {
     /// At the first difference the prefix has the larger byte.
     Larger,

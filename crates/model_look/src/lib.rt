@@ -3,7 +3,7 @@
 #![tactic(auto)]
 
 ghost use Rattle.std.specs.Prelude.{◌≡◌};
-ghost use Rattle.keys.specs.Codes.{coded};
+ghost use Rattle.inline_bytes.specs.Held.{bytes_of};
 ghost use Rattle.look.specs.Look.{looked};
 ghost use Rattle.model_look.specs.Compares.{Compares};
 ghost use Rattle.model_look.specs.Tells.{LooksTell, MeetsTell, Told, WalksGo};
@@ -15,8 +15,8 @@ use nodes::{Branch, Prefix};
 
 /// A look, with what it says of every tree that has this node on the key's way.
 pub fn look_told<B: Branch>(prefix: &Prefix, node: &B, key: &Code, d: usize) -> Seen
-    ensures seen { result ≡ looked (kept prefix.now) (B.Branch.view node.now) (coded key.now) d }
-    ensures told { Told (kept prefix.now) (B.Branch.view node.now) (coded key.now) d result }
+    ensures seen { result ≡ looked (kept prefix.now) (B.Branch.view node.now) (bytes_of key.now) d }
+    ensures told { Told (kept prefix.now) (B.Branch.view node.now) (bytes_of key.now) d result }
 {
     look(prefix, node, key, d)
 }
