@@ -8,7 +8,7 @@ use Rattle.pools.proofs.Below.{first_rest}
 use Rattle.index.specs.declared.tree.Retired.{Retired}
 use Rattle.index.specs.Sizes.{leaf_count}
 use Rattle.index.specs.Sweeps.{freed_by, kept_by}
-use Rattle.index.specs.Trees.{Ours, no_record}
+use Rattle.index.specs.Kept.{Ours, no_record}
 
 -- the first record goes behind the others, or away
 pub ours_first : (xs : List Retired) (x : Retired) → Some x ≡ first xs → Ours xs → x.slot < leaf_count

@@ -1,6 +1,5 @@
 ghost use Rattle.std.specs.Prelude.{◌≡◌};
 ghost use Rattle.index.specs.Meets.{Meets};
-ghost use Rattle.index.specs.Trees.{Ready};
 
 use crate::operation::{Met, Stage};
 use crate::tree::Tree;
@@ -11,8 +10,6 @@ use terms::Cause;
 impl Tree {
     /// Does what a stage does to the tree, for an operation with this key.
     pub(crate) fn meet<L: Latch>(&mut self, key: Code, stage: Stage) -> Met
-        requires { Ready self.old }
-        ensures ready { Ready self.new }
         ensures epoch { self.new.epoch ≡ self.old.epoch }
         ensures met { Meets L.face key self.old self.new stage result }
     {

@@ -1,3 +1,5 @@
+ghost use Rattle.index.specs.Kept.{Ready};
+
 use keys::Code;
 use latches::Word;
 use pools::{Queue, Slots};
@@ -29,4 +31,5 @@ pub struct Tree {
     pub(crate) records: [Retired; LEAVES],
     pub(crate) retired: Queue,
     pub(crate) epoch: u64,
+    ghost ready: { Ready table slots records retired },
 }
