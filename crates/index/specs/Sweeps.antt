@@ -1,5 +1,6 @@
 -- What a sweep makes spare.
-use Rattle.std.specs.Prelude.{◌≡◌, ℕ, ◌+◌, Bool, true, cond, ◌&&◌, List, [], ◌∷◌, ◌++◌, length, nat_lt}
+use Rattle.std.specs.Prelude.{◌≡◌, ℕ, ◌+◌, Bool, true, cond, List, [], ◌∷◌, ◌++◌, length, nat_lt}
+use Rattle.std.specs.List.{list_all}
 use Rattle.index.specs.declared.seat.Seat.{Seat}
 use Rattle.index.specs.declared.seat.Seat.TheVariants.{Closed, Idle, Busy}
 use Rattle.index.specs.declared.tree.Retired.{Retired}
@@ -14,8 +15,7 @@ begins_after (Busy o) e = nat_lt e o.begun
 
 -- whether an epoch is below that of each open operation
 abbrev pub older : List Seat → ℕ → Bool
-older [] e = true
-older (s ∷ ss) e = begins_after s e && older ss e
+older ss e = list_all (λ s. begins_after s e) ss
 
 -- the slots retired in such an epoch, and the records of the others, in order of retiring
 abbrev pub freed_by : (ℕ → Bool) → List Retired → List ℕ

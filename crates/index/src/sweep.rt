@@ -22,12 +22,7 @@ fn began_after(seat: Seat, epoch: u64) -> bool
 fn is_older(seats: &[Seat], epoch: u64) -> bool
     ensures { result ≡ older seats.now epoch }
 {
-    for seat in seats {
-        if !began_after(*seat, epoch) {
-            return false;
-        }
-    }
-    true
+    seats.iter().all(|seat| began_after(*seat, epoch))
 }
 
 impl Tree {
@@ -54,8 +49,8 @@ impl Tree {
         self.epoch += 1;
         let n = self.retired.len();
         let mut count = 0;
-        for i in 0..n {
-            count += self.sweep_one(seats) as u16;
+        for _i in 0..n {
+            count += u16::from(self.sweep_one(seats));
         }
         count
     }

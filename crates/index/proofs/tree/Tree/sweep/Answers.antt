@@ -13,7 +13,7 @@ loop-i-preserved c =
     let s = c.args.self.now in
     let R = retired_of s in
     let p = older c.args.seats.now in
-    let i = c.loop-i.i in
+    let i = c.loop-i._i in
     let x = get_or R i no_record in
     let inv = c.loop-i.invariant in
     let h : i < length R = omega (arith, length_contents s.records s.retired s.ready.1, c.len-n.ensures, c.loop-i-test.true) in
@@ -21,8 +21,8 @@ loop-i-preserved c =
     let b = c.sweep_one.result in (
       one.retired ∙ ap (λ (t : Bool). (drop (i + 1) R ++ kept_by p (take i R)) ++ cond t [] (x ∷ [])) one.turns ∙ kept_more p R i no_record h,
       one.spare ∙ ap (λ ys. ys ++ cond b (x.slot ∷ []) []) inv.1 ∙ ap (λ (t : Bool). (spare_of s ++ freed_by p (take i R)) ++ cond t (x.slot ∷ []) []) one.turns ∙ spare_more p R i no_record h (spare_of s),
-      ap (λ n. n + bool_byte b) inv.2 ∙ ap (λ (t : Bool). length (freed_by p (take i R)) + bool_byte t) one.turns ∙ count_more p R i no_record h,
-      omega (arith, inv.3, one_or_none b),
+      ap (λ n. c.loop-i.count + n) c.from-count.ensures ∙ ap (λ n. n + bool_byte b) inv.2 ∙ ap (λ (t : Bool). length (freed_by p (take i R)) + bool_byte t) one.turns ∙ count_more p R i no_record h,
+      omega (arith, inv.3, one_or_none b, c.from-count.ensures),
       one.epoch ∙ inv.4,
       record { children = one.rest.children ∙ inv.5.children; word = one.rest.word ∙ inv.5.word; leaves = one.rest.leaves ∙ inv.5.leaves },
     )
@@ -32,7 +32,7 @@ returns c =
     let s = c.args.self.now in
     let R = retired_of s in
     let p = older c.args.seats.now in
-    let i = c.loop-i.i in
+    let i = c.loop-i._i in
     let inv = c.loop-i.invariant in
     let h : length R ≤ i = omega (arith, length_contents s.records s.retired s.ready.1, c.len-n.ensures, c.loop-i-test.false) in
     let all = take_all i R h in
