@@ -18,15 +18,10 @@ fn leaf_in(leaves: &[Leaf], slot: u16) -> Leaf
     ensures key { coded result.key ≡ coded (slice_index_or leaves.now slot no_leaf).key }
     ensures value { result.value ≡ (slice_index_or leaves.now slot no_leaf).value }
 {
-    let at = slot as usize;
-    if at < leaves.len() {
-        leaves[at]
-    } else {
-        Leaf {
-            key: Code::empty(),
-            value: 0,
-        }
-    }
+    leaves.get(usize::from(slot)).copied().unwrap_or(Leaf {
+        key: Code::empty(),
+        value: 0,
+    })
 }
 
 impl Tree {
@@ -63,9 +58,7 @@ impl Tree {
     pub(crate) fn look(&self, key: &Code) -> Option<Sight>
         ensures { Looked self.now (coded key.now) result }
     {
-        let Some(byte) = key.byte(0) else {
-            return None;
-        };
+        let byte = key.byte(0)?;
         let Some(slot) = self.children[byte as usize] else {
             return Some(Sight::Nothing);
         };

@@ -14,7 +14,7 @@ pub struct Leaf {
 }
 
 /// A slot that a write took out of the tree, with the epoch of that write.
-#[derive(Clone, Copy)]
+#[derive(Clone, Copy, Debug, PartialEq, Eq)]
 pub struct Retired {
     pub(crate) slot: u16,
     pub(crate) epoch: u64,
