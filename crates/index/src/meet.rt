@@ -14,10 +14,7 @@ impl Tree {
         ensures met { Meets L.face key self.old self.new stage result }
     {
         match stage {
-            Stage::Take => match self.take::<L>() {
-                Ok(permit) => Met::Granted(permit),
-                Err(cause) => Met::Refused(cause),
-            },
+            Stage::Take => self.take::<L>().map_or_else(Met::Refused, Met::Granted),
             Stage::Look(permit) => match self.look(&key) {
                 Some(sight) => Met::Saw(sight),
                 None => {
@@ -25,18 +22,15 @@ impl Tree {
                     Met::Refused(Cause::Changed)
                 }
             },
-            Stage::Check(permit, _) => match self.check::<L>(permit) {
-                Ok(()) => Met::Done,
-                Err(cause) => Met::Refused(cause),
-            },
-            Stage::Lock(permit, _) => match self.lock::<L>(permit) {
-                Ok(()) => Met::Done,
-                Err(cause) => Met::Refused(cause),
-            },
-            Stage::Draw(course) => match self.draw::<L>(key, course) {
-                Ok(leaf) => Met::Drew(leaf),
-                Err(pool) => Met::NoRoom(pool),
-            },
+            Stage::Check(permit, _) => self
+                .check::<L>(permit)
+                .map_or_else(Met::Refused, |()| Met::Done),
+            Stage::Lock(permit, _) => self
+                .lock::<L>(permit)
+                .map_or_else(Met::Refused, |()| Met::Done),
+            Stage::Draw(course) => self
+                .draw::<L>(key, course)
+                .map_or_else(Met::NoRoom, Met::Drew),
             Stage::Write(leaf) => {
                 self.write(&key, leaf);
                 Met::Done
