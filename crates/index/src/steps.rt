@@ -59,7 +59,7 @@ impl Tree {
         ensures { Looked self.now (coded key.now) result }
     {
         let byte = key.byte(0)?;
-        let Some(slot) = self.children[byte as usize] else {
+        let Some(slot) = self.children[usize::from(byte)] else {
             return Some(Sight::Nothing);
         };
         let leaf = leaf_in(&self.leaves, slot);
@@ -143,7 +143,7 @@ impl Tree {
         ensures { Written (coded key.now) leaf self.old self.new }
     {
         if let Some(byte) = key.byte(0) {
-            self.children[byte as usize] = Some(leaf);
+            self.children[usize::from(byte)] = Some(leaf);
         }
     }
 
