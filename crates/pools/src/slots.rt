@@ -52,7 +52,7 @@ impl<const N: usize> Slots<N> {
     {
         let Drawn { slot } = drawn;
         self.owed -= 1;
-        items[slot as usize] = item;
+        items[usize::from(slot)] = item;
         slot
     }
 
@@ -92,10 +92,10 @@ impl<const N: usize> Slots<N> {
         ensures len { self.new.queue.len ≡ (if result then self.old.queue.len + 1 else self.old.queue.len) }
         ensures full { result ≡ false → (self.new ≡ self.old) × (table.new ≡ table.old) }
     {
-        if slot as usize >= N {
+        if usize::from(slot) >= N {
             return false;
         }
-        if self.queue.len + self.owed as usize >= table.len() {
+        if self.queue.len + usize::from(self.owed) >= table.len() {
             return false;
         }
         self.queue.put(table, slot)
