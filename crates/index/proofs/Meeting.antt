@@ -14,11 +14,11 @@ pub at_stage : {f : Face} {k : Code} {σ τ : Tree} {m : Met} {g h : Stage} → 
 at_stage {f} {k} {σ} {τ} {m} e r = subst (λ (x : Stage). Meets f k σ τ x m) (sym e) r
 
 -- What comes of a result, by the rule of either side.
-pub met_by : {f : Face} {k : Code} {σ τ : Tree} {m : Met} {g h : Stage} {A E : Type 0} (T : Result A E → Type 0) (good : A → Met) (bad : E → Met)
+pub met_by : {f : Face} {k : Code} {σ τ : Tree} {m : Met} {g h : Stage} {A E : Type 0} (T : Result A E → Type 0) {good : A → Met} {bad : E → Met}
     → h ≡ g → ((x : A) → T (Ok x) → Meets f k σ τ g (good x)) → ((e : E) → T (Err e) → Meets f k σ τ g (bad e))
-    → (r : Result A E) → T r → MatchResult r (λ x. m ≡ good x) (λ e. m ≡ bad e) → Meets f k σ τ h m
-met_by {f} {k} {σ} {τ} {g = g} T good bad s y n (Ok x) t e = at_stage s (subst (λ (m : Met). Meets f k σ τ g m) (sym e) (y x t))
-met_by {f} {k} {σ} {τ} {g = g} T good bad s y n (Err x) t e = at_stage s (subst (λ (m : Met). Meets f k σ τ g m) (sym e) (n x t))
+    → {r : Result A E} → T r → MatchResult r (λ x. m ≡ good x) (λ e. m ≡ bad e) → Meets f k σ τ h m
+met_by T s y n {r = Ok x} t e = at_stage s (rw e (y x t))
+met_by T s y n {r = Err x} t e = at_stage s (rw e (n x t))
 
 -- What a stage meets moves the seat on.
 pub meets_moves : {f : Face} {k : Code} {σ τ : Tree} {g : Stage} {m : Met} → Meets f k σ τ g m → (o : Operation) → o.stage ≡ g → is_some (moved o m) ≡ true

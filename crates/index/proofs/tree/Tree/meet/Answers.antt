@@ -1,12 +1,11 @@
 use Rattle.std.proofs.Common.{refl, rules}
-use Rattle.index.specs.declared.operation.Met.TheVariants.{Refused, NoRoom, Granted, Drew, Done}
 use Rattle.index.specs.Effects.{Taken, Checked, LockedNow, DrawnFor}
 use Rattle.index.specs.Meets.{Meets}
 use Rattle.index.proofs.Meeting.{at_stage, met_by}
 use Rattle.index.proofs.tree.Tree.meet.Goals as goal
 
 pub returns-in-Take-clause-met : goal.returns-in-Take-clause-met
-returns-in-Take-clause-met g c = met_by (Taken g.L.Latch.face c.args.self.now c.take.new.self) Granted Refused c.in-Take.is (λ x t. Meets.granted t) (λ e t. Meets.not_granted t) c.take.result c.take.ensures (search rules)
+returns-in-Take-clause-met g c = met_by (Taken g.L.Latch.face c.args.self.now c.take.new.self) c.in-Take.is (λ _. Meets.granted) (λ _. Meets.not_granted) c.take.ensures (search rules)
 
 pub returns-in-Some-clause-met : goal.returns-in-Some-clause-met
 returns-in-Some-clause-met g c = at_stage c.in-Look.is (Meets.saw c.in-Some.ensures refl)
@@ -15,13 +14,13 @@ pub returns-in-None-clause-met : goal.returns-in-None-clause-met
 returns-in-None-clause-met g c = at_stage c.in-Look.is (Meets.ended c.in-None.ensures c.give_back.ensures)
 
 pub returns-in-Check-clause-met : goal.returns-in-Check-clause-met
-returns-in-Check-clause-met g c = met_by (Checked g.L.Latch.face c.in-Check.permit c.args.self.now c.check.new.self) (λ _. Done) Refused c.in-Check.is (λ x t. Meets.passed t) (λ e t. Meets.not_passed t) c.check.result c.check.ensures (search rules)
+returns-in-Check-clause-met g c = met_by (Checked g.L.Latch.face c.in-Check.permit c.args.self.now c.check.new.self) c.in-Check.is (λ _. Meets.passed) (λ _. Meets.not_passed) c.check.ensures (search rules)
 
 pub returns-in-Lock-clause-met : goal.returns-in-Lock-clause-met
-returns-in-Lock-clause-met g c = met_by (LockedNow g.L.Latch.face c.in-Lock.permit c.args.self.now c.lock.new.self) (λ _. Done) Refused c.in-Lock.is (λ x t. Meets.locked t) (λ e t. Meets.not_locked t) c.lock.result c.lock.ensures (search rules)
+returns-in-Lock-clause-met g c = met_by (LockedNow g.L.Latch.face c.in-Lock.permit c.args.self.now c.lock.new.self) c.in-Lock.is (λ _. Meets.locked) (λ _. Meets.not_locked) c.lock.ensures (search rules)
 
 pub returns-in-Draw-clause-met : goal.returns-in-Draw-clause-met
-returns-in-Draw-clause-met g c = met_by (DrawnFor g.L.Latch.face c.args.key c.args.self.now c.draw.new.self c.in-Draw.course) Drew NoRoom c.in-Draw.is (λ x t. Meets.drew t) (λ e t. Meets.no_room t) c.draw.result c.draw.ensures (search rules)
+returns-in-Draw-clause-met g c = met_by (DrawnFor g.L.Latch.face c.args.key c.args.self.now c.draw.new.self c.in-Draw.course) c.in-Draw.is (λ _. Meets.drew) (λ _. Meets.no_room) c.draw.ensures (search rules)
 
 pub returns-in-Write-clause-met : goal.returns-in-Write-clause-met
 returns-in-Write-clause-met g c = at_stage c.in-Write.is (Meets.wrote c.write.ensures)
