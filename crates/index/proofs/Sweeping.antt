@@ -1,14 +1,16 @@
 -- Records swept one by one.
 use Rattle.std.proofs.Common.{◌≡◌, ℕ, suc, ◌+◌, ◌<◌, ◌≤◌, Bool, true, false, cond, List, [], ◌∷◌, ◌++◌, length, get_or, take, drop, Some, sym, refl, ap, ◌∙◌, subst, append_assoc, arith, length-append}
+use Rattle.std.specs.Prelude.{not, map}
+use Rattle.std.proofs.lemmas.List.Elements.{filter-append}
 use mir.Val.{bool_byte}
 use Rattle.std.proofs.ByRecursion.{All-push, All-get_or, All-from_get_or}
-use Rattle.std.proofs.lemmas.List.{drop_more, take_more}
+use Rattle.std.proofs.lemmas.List.{drop_more, take_more, map-append}
 use Rattle.pools.specs.Contents.{first, rest}
 use Rattle.pools.proofs.Below.{first_rest}
 use Rattle.index.specs.declared.tree.Retired.{Retired}
 use Rattle.index.specs.Sizes.{leaf_count}
 use Rattle.index.specs.Sweeps.{freed_by, kept_by}
-use Rattle.index.specs.Trees.{Ours, no_record}
+use Rattle.index.specs.Kept.{Ours, no_record}
 
 -- the first record goes behind the others, or away
 pub ours_first : (xs : List Retired) (x : Retired) → Some x ≡ first xs → Ours xs → x.slot < leaf_count
@@ -26,20 +28,14 @@ ours_turned xs x e h =
     λ k l. All-get_or P (rest xs ++ x ∷ []) k no_record l (All-push P (rest xs) x (All-from_get_or P (rest xs) no_record (ours_rest xs h)) (ours_first xs x e h))
 
 pub freed_push : (p : ℕ → Bool) (xs : List Retired) (x : Retired) → freed_by p (xs ++ x ∷ []) ≡ freed_by p xs ++ cond (p x.epoch) (x.slot ∷ []) []
-freed_push p [] x = refl
-freed_push p (y ∷ xs) x =
-    elim (p y.epoch) as (λ b. cond b (y.slot ∷ freed_by p (xs ++ x ∷ [])) (freed_by p (xs ++ x ∷ [])) ≡ cond b (y.slot ∷ freed_by p xs) (freed_by p xs) ++ cond (p x.epoch) (x.slot ∷ []) []) [
-      | true ↦ ap (λ zs. y.slot ∷ zs) (freed_push p xs x)
-      | false ↦ freed_push p xs x
-    ]
+freed_push p xs x =
+    let last : map (λ (r : Retired). r.slot) (cond (p x.epoch) (x ∷ []) []) ≡ cond (p x.epoch) (x.slot ∷ []) [] = elim (p x.epoch) as (λ b. map (λ (r : Retired). r.slot) (cond b (x ∷ []) []) ≡ cond b (x.slot ∷ []) []) [ true ↦ refl | false ↦ refl ] in
+    simp (filter-append, map-append, last)
 
 pub kept_push : (p : ℕ → Bool) (xs : List Retired) (x : Retired) → kept_by p (xs ++ x ∷ []) ≡ kept_by p xs ++ cond (p x.epoch) [] (x ∷ [])
-kept_push p [] x = refl
-kept_push p (y ∷ xs) x =
-    elim (p y.epoch) as (λ b. cond b (kept_by p (xs ++ x ∷ [])) (y ∷ kept_by p (xs ++ x ∷ [])) ≡ cond b (kept_by p xs) (y ∷ kept_by p xs) ++ cond (p x.epoch) [] (x ∷ [])) [
-      | true ↦ kept_push p xs x
-      | false ↦ ap (λ zs. y ∷ zs) (kept_push p xs x)
-    ]
+kept_push p xs x =
+    let last : cond (not (p x.epoch)) (x ∷ []) [] ≡ cond (p x.epoch) [] (x ∷ []) = elim (p x.epoch) as (λ b. cond (not b) (x ∷ []) [] ≡ cond b [] (x ∷ [])) [ true ↦ refl | false ↦ refl ] in
+    simp (filter-append, last)
 
 -- one record more of R, with S the slots that were spare before
 module _ (p : ℕ → Bool) (R : List Retired) (i : ℕ) (d : Retired) (h : i < length R) where

@@ -67,6 +67,17 @@ is_idle (Busy o) = false
 abbrev pub limit_row : State → Option Refusal
 limit_row σ = row (nat_le call_limit σ.calls) CallLimit None
 
+-- what a seat that is to be idle answers
+abbrev pub idle_answer : Seat → Result (Unit {0}) Refusal
+idle_answer Closed = Err NotOpen
+idle_answer Idle = Ok tt
+idle_answer (Busy o) = Err SeatBusy
+
+-- one call more is counted, unless that was the last
+abbrev pub DidCount : State → State → Result (Unit {0}) Refusal → Type 0
+DidCount σ τ (Ok _) = (limit_row σ ≡ None) × (τ ≡ record σ { calls = σ.calls + 1 })
+DidCount σ τ (Err e) = (limit_row σ ≡ Some e) × (τ ≡ σ)
+
 abbrev pub open_refusal : ℕ → State → Option Refusal
 open_refusal s σ = row (nat_le seat_count s) NoSuchSeat (row (is_open (seat_at σ s)) AlreadyOpen (limit_row σ))
 

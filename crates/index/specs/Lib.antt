@@ -1,4 +1,5 @@
 pub mod Sizes
+pub mod Kept
 pub mod Machine
 pub mod Trees
 pub mod Effects

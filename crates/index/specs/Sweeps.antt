@@ -1,5 +1,6 @@
 -- What a sweep makes spare.
-use Rattle.std.specs.Prelude.{◌≡◌, ℕ, ◌+◌, Bool, true, cond, ◌&&◌, List, [], ◌∷◌, ◌++◌, length, nat_lt}
+use Rattle.std.specs.Prelude.{◌≡◌, ℕ, ◌+◌, Bool, true, not, cond, List, [], ◌∷◌, ◌++◌, length, map, filter, nat_lt}
+use Rattle.std.specs.List.{list_all}
 use Rattle.index.specs.declared.seat.Seat.{Seat}
 use Rattle.index.specs.declared.seat.Seat.TheVariants.{Closed, Idle, Busy}
 use Rattle.index.specs.declared.tree.Retired.{Retired}
@@ -14,17 +15,14 @@ begins_after (Busy o) e = nat_lt e o.begun
 
 -- whether an epoch is below that of each open operation
 abbrev pub older : List Seat → ℕ → Bool
-older [] e = true
-older (s ∷ ss) e = begins_after s e && older ss e
+older ss e = list_all (λ s. begins_after s e) ss
 
 -- the slots retired in such an epoch, and the records of the others, in order of retiring
 abbrev pub freed_by : (ℕ → Bool) → List Retired → List ℕ
-freed_by p [] = []
-freed_by p (r ∷ rs) = cond (p r.epoch) (r.slot ∷ freed_by p rs) (freed_by p rs)
+freed_by p rs = map (λ r. r.slot) (filter (λ r. p r.epoch) rs)
 
 abbrev pub kept_by : (ℕ → Bool) → List Retired → List Retired
-kept_by p [] = []
-kept_by p (r ∷ rs) = cond (p r.epoch) (kept_by p rs) (r ∷ kept_by p rs)
+kept_by p rs = filter (λ r. not (p r.epoch)) rs
 
 -- what a sweep leaves as it is
 pub record Unswept (σ τ : Tree) : Type 0 where

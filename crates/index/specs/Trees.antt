@@ -1,11 +1,9 @@
 -- The memory of a tree, as its contracts read it.
-use Rattle.std.specs.Prelude.{◌≡◌, ℕ, ◌+◌, ◌<◌, ◌≤◌, List, [], length, get_or, replicate, None, slice_index_or}
+use Rattle.std.specs.Prelude.{◌≡◌, ℕ, List, [], replicate, None, slice_index_or}
 use Rattle.std.specs.List.{range_with_len}
 use Rattle.latches.specs.Rules.{zero_word}
-use Rattle.pools.specs.Contents.{contents, Fits}
-use Rattle.pools.specs.declared.queue.Queue.{Queue}
-use Rattle.pools.specs.declared.slots.Slots.{Slots}
-use Rattle.pools.specs.Spare.{spare, Sound}
+use Rattle.pools.specs.Contents.{contents}
+use Rattle.pools.specs.Spare.{spare}
 use Rattle.index.specs.Sizes.{leaf_count}
 use Rattle.index.specs.declared.tree.Leaf.{Leaf}
 use Rattle.index.specs.declared.tree.Retired.{Retired}
@@ -24,21 +22,6 @@ no_leaf = record { key = record { bytes = []; len = 0 }; value = 0 }
 
 abbrev pub leaf_at : Tree → ℕ → Leaf
 leaf_at t i = slice_index_or t.leaves i no_leaf
-
-abbrev pub no_record : Retired
-no_record = record { slot = 0; epoch = 0 }
-
--- records of slots that the pool has
-abbrev pub Ours : List Retired → Type 0
-Ours rs = (k : ℕ) → k < length rs → (get_or rs k no_record).slot < leaf_count
-
--- both queues fit their tables, nothing is owed, what is retired finds room among the spare, and is the pool's
-abbrev pub Kept : List ℕ → Slots leaf_count → List Retired → Queue → Type 0
-Kept table slots records retired =
-    Sound table slots × Fits records retired × (slots.owed ≡ 0) × (slots.queue.len + retired.len ≤ leaf_count) × Ours (contents records retired)
-
-abbrev pub Ready : Tree → Type 0
-Ready t = Kept t.table t.slots t.records t.retired
 
 -- an empty tree: no children, every leaf spare in rising order, nothing retired
 pub record Made (t : Tree) : Type 0 where

@@ -1,5 +1,4 @@
 ghost use Rattle.std.specs.Prelude.{◌≤◌};
-ghost use Rattle.index.specs.Trees.{Ready};
 
 use crate::seat::Seat;
 use crate::tree::Tree;
@@ -22,6 +21,5 @@ pub struct Index<C: Coding, L: Latch> {
     calls: u64,
     coding: PhantomData<C>,
     latch: PhantomData<L>,
-    ghost ready: { Ready tree },
     ghost counted: { tree.epoch ≤ calls },
 }

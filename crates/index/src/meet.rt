@@ -1,6 +1,5 @@
 ghost use Rattle.std.specs.Prelude.{◌≡◌};
 ghost use Rattle.index.specs.Meets.{Meets};
-ghost use Rattle.index.specs.Trees.{Ready};
 
 use crate::operation::{Met, Stage};
 use crate::tree::Tree;
@@ -11,16 +10,11 @@ use terms::Cause;
 impl Tree {
     /// Does what a stage does to the tree, for an operation with this key.
     pub(crate) fn meet<L: Latch>(&mut self, key: Code, stage: Stage) -> Met
-        requires { Ready self.old }
-        ensures ready { Ready self.new }
         ensures epoch { self.new.epoch ≡ self.old.epoch }
         ensures met { Meets L.face key self.old self.new stage result }
     {
         match stage {
-            Stage::Take => match self.take::<L>() {
-                Ok(permit) => Met::Granted(permit),
-                Err(cause) => Met::Refused(cause),
-            },
+            Stage::Take => self.take::<L>().map_or_else(Met::Refused, Met::Granted),
             Stage::Look(permit) => match self.look(&key) {
                 Some(sight) => Met::Saw(sight),
                 None => {
@@ -28,18 +22,15 @@ impl Tree {
                     Met::Refused(Cause::Changed)
                 }
             },
-            Stage::Check(permit, _) => match self.check::<L>(permit) {
-                Ok(()) => Met::Done,
-                Err(cause) => Met::Refused(cause),
-            },
-            Stage::Lock(permit, _) => match self.lock::<L>(permit) {
-                Ok(()) => Met::Done,
-                Err(cause) => Met::Refused(cause),
-            },
-            Stage::Draw(course) => match self.draw::<L>(key, course) {
-                Ok(leaf) => Met::Drew(leaf),
-                Err(pool) => Met::NoRoom(pool),
-            },
+            Stage::Check(permit, _) => self
+                .check::<L>(permit)
+                .map_or_else(Met::Refused, |()| Met::Done),
+            Stage::Lock(permit, _) => self
+                .lock::<L>(permit)
+                .map_or_else(Met::Refused, |()| Met::Done),
+            Stage::Draw(course) => self
+                .draw::<L>(key, course)
+                .map_or_else(Met::NoRoom, Met::Drew),
             Stage::Write(leaf) => {
                 self.write(&key, leaf);
                 Met::Done

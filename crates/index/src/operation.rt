@@ -3,14 +3,14 @@ use latches::Permit;
 use terms::{Answer, Cause, Kind};
 
 /// What an operation is to do with its key.
-#[derive(Clone, Copy)]
+#[derive(Clone, Copy, Debug, PartialEq, Eq)]
 pub enum Task {
     Find,
     Add(u32),
 }
 
 /// How an add goes on once it knows what to change.
-#[derive(Clone, Copy)]
+#[derive(Clone, Copy, Debug, PartialEq, Eq)]
 pub enum Course {
     /// The byte is free: a new leaf with this value goes under it.
     Insert(u32),
@@ -31,7 +31,7 @@ pub enum Stage {
 }
 
 /// What a look at a node finds under the key's byte.
-#[derive(Clone, Copy)]
+#[derive(Clone, Copy, Debug, PartialEq, Eq)]
 pub enum Sight {
     Nothing,
     Same(u32),

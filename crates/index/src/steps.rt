@@ -4,7 +4,7 @@ ghost use Rattle.std.specs.Prelude.{◌≡◌, [], None, slice_index_or};
 ghost use Rattle.keys.specs.Codes.{coded};
 ghost use Rattle.std.specs.List.{range_with_len};
 ghost use Rattle.index.specs.Effects.{Taken, Looked, GaveBack, Checked, LockedNow, DrawnFor, LeafDrawn, NothingDrawn, Written, Unlocked};
-ghost use Rattle.index.specs.Trees.{Ready, Made, no_leaf};
+ghost use Rattle.index.specs.Trees.{Made, no_leaf};
 
 use crate::operation::{Course, Sight};
 use crate::tree::{LEAVES, Leaf, Retired, Tree};
@@ -18,22 +18,16 @@ fn leaf_in(leaves: &[Leaf], slot: u16) -> Leaf
     ensures key { coded result.key ≡ coded (slice_index_or leaves.now slot no_leaf).key }
     ensures value { result.value ≡ (slice_index_or leaves.now slot no_leaf).value }
 {
-    let at = slot as usize;
-    if at < leaves.len() {
-        leaves[at]
-    } else {
-        Leaf {
-            key: Code::empty(),
-            value: 0,
-        }
-    }
+    leaves.get(usize::from(slot)).copied().unwrap_or(Leaf {
+        key: Code::empty(),
+        value: 0,
+    })
 }
 
 impl Tree {
     /// The empty tree: a root without children, and every leaf spare.
     pub(crate) fn new() -> Tree
-        ensures ready { Ready result }
-        ensures made { Made result }
+        ensures { Made result }
     {
         let mut table = [0; LEAVES];
         let slots = Slots::new(&mut table, 0);
@@ -64,10 +58,8 @@ impl Tree {
     pub(crate) fn look(&self, key: &Code) -> Option<Sight>
         ensures { Looked self.now (coded key.now) result }
     {
-        let Some(byte) = key.byte(0) else {
-            return None;
-        };
-        let Some(slot) = self.children[byte as usize] else {
+        let byte = key.byte(0)?;
+        let Some(slot) = self.children[usize::from(byte)] else {
             return Some(Sight::Nothing);
         };
         let leaf = leaf_in(&self.leaves, slot);
@@ -110,9 +102,7 @@ impl Tree {
 
     /// Draws what the course needs and fills it in, or says which pool has no spare slot.
     pub(crate) fn draw<L: Latch>(&mut self, key: Code, course: Course) -> Result<u16, Kind>
-        requires { Ready self.old }
-        ensures ready { Ready self.new }
-        ensures drawn { DrawnFor L.face key self.old self.new course result }
+        ensures { DrawnFor L.face key self.old self.new course result }
     {
         match course {
             Course::Insert(value) => self.draw_leaf::<L>(Leaf { key, value }),
@@ -122,9 +112,7 @@ impl Tree {
 
     // A leaf, at the slot that was spare longest.
     fn draw_leaf<L: Latch>(&mut self, leaf: Leaf) -> Result<u16, Kind>
-        requires { Ready self.old }
-        ensures ready { Ready self.new }
-        ensures drawn { LeafDrawn L.face leaf.key leaf.value self.old self.new result }
+        ensures { LeafDrawn L.face leaf.key leaf.value self.old self.new result }
     {
         match self.slots.store(&self.table, &mut self.leaves, leaf) {
             Some(slot) => Ok(slot),
@@ -137,9 +125,7 @@ impl Tree {
 
     // A leaf and a node with it: the root is the only node, so that no Node4 is spare and the leaf goes back.
     fn draw_none<L: Latch>(&mut self) -> Kind
-        requires { Ready self.old }
-        ensures ready { Ready self.new }
-        ensures drawn { NothingDrawn L.face self.old self.new result }
+        ensures { NothingDrawn L.face self.old self.new result }
     {
         let drawn = self.slots.draw(&self.table);
         self.word = L::unlock(self.word);
@@ -157,7 +143,7 @@ impl Tree {
         ensures { Written (coded key.now) leaf self.old self.new }
     {
         if let Some(byte) = key.byte(0) {
-            self.children[byte as usize] = Some(leaf);
+            self.children[usize::from(byte)] = Some(leaf);
         }
     }
 

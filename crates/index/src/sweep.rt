@@ -3,7 +3,7 @@
 
 ghost use Rattle.std.specs.Prelude.{◌≡◌, ℕ, ◌^◌, ◌<◌, Bool, List, ◌∷◌};
 ghost use Rattle.index.specs.Sweeps.{begins_after, older, SweptOne, Swept};
-ghost use Rattle.index.specs.Trees.{Ready, retired_of};
+ghost use Rattle.index.specs.Trees.{retired_of};
 ghost use Rattle.index.specs.declared.tree.Retired.{Retired};
 
 use crate::seat::Seat;
@@ -22,20 +22,13 @@ fn began_after(seat: Seat, epoch: u64) -> bool
 fn is_older(seats: &[Seat], epoch: u64) -> bool
     ensures { result ≡ older seats.now epoch }
 {
-    for seat in seats {
-        if !began_after(*seat, epoch) {
-            return false;
-        }
-    }
-    true
+    seats.iter().all(|seat| began_after(*seat, epoch))
 }
 
 impl Tree {
     // Takes the first record: its slot turns spare, or it goes behind the others.
     fn sweep_one(&mut self, seats: &[Seat]) -> bool
-        requires { Ready self.old }
-        ensures ready { Ready self.new }
-        ensures one { (first : Retired) (others : List Retired) → retired_of self.old ≡ first ∷ others → SweptOne (older seats.now) first others self.old self.new result }
+        ensures { (first : Retired) (others : List Retired) → retired_of self.old ≡ first ∷ others → SweptOne (older seats.now) first others self.old self.new result }
     {
         let Some(record) = self.retired.take(&self.records) else {
             return false;
@@ -50,15 +43,14 @@ impl Tree {
 
     /// Starts a new epoch, and makes every retired slot spare whose epoch is below that of each open operation.
     pub(crate) fn sweep(&mut self, seats: &[Seat]) -> u16
-        requires { Ready self.old × (self.old.epoch < 2 ^ 50) }
-        ensures ready { Ready self.new }
-        ensures swept { Swept seats.now self.old self.new result }
+        requires { self.old.epoch < 2 ^ 50 }
+        ensures { Swept seats.now self.old self.new result }
     {
         self.epoch += 1;
         let n = self.retired.len();
         let mut count = 0;
-        for i in 0..n {
-            count += self.sweep_one(seats) as u16;
+        for _i in 0..n {
+            count += u16::from(self.sweep_one(seats));
         }
         count
     }

@@ -1,3 +1,5 @@
+ghost use Rattle.index.specs.Kept.{Ready};
+
 use keys::Code;
 use latches::Word;
 use pools::{Queue, Slots};
@@ -12,7 +14,7 @@ pub struct Leaf {
 }
 
 /// A slot that a write took out of the tree, with the epoch of that write.
-#[derive(Clone, Copy)]
+#[derive(Clone, Copy, Debug, PartialEq, Eq)]
 pub struct Retired {
     pub(crate) slot: u16,
     pub(crate) epoch: u64,
@@ -29,4 +31,5 @@ pub struct Tree {
     pub(crate) records: [Retired; LEAVES],
     pub(crate) retired: Queue,
     pub(crate) epoch: u64,
+    ghost ready: { Ready table slots records retired },
 }

@@ -4,7 +4,7 @@
 ghost use Rattle.std.specs.Prelude.{◌≡◌, ◌+◌, ◌<◌, true, false, [], ◌∷◌, ◌++◌, length, if◌then◌else◌, MatchOption, nat_lt};
 ghost use Rattle.pools.specs.Contents.{contents, Fits, first, rest};
 
-#[derive(Clone, Copy)]
+#[derive(Clone, Copy, Debug, PartialEq, Eq)]
 pub struct Queue {
     pub(crate) head: usize,
     pub(crate) len: usize,

@@ -1,7 +1,7 @@
 //! The calls. Each is refused by the topmost row that fits, and then leaves everything as it was.
 
-ghost use Rattle.std.specs.Prelude.{◌≡◌};
-ghost use Rattle.index.specs.Calls.{state_of, NewIndex, DidOpen, DidClose, DidBegin, DidStep, DidSweep};
+ghost use Rattle.std.specs.Prelude.{◌≡◌, ◌<◌, if◌then◌else◌, nat_lt};
+ghost use Rattle.index.specs.Calls.{state_of, seat_at, NewIndex, idle_answer, DidCount, DidOpen, DidClose, DidBegin, DidStep, DidSweep};
 ghost use Rattle.index.specs.declared.operation.Task.TheVariants.{Find as FindTask, Add as AddTask};
 
 use super::{CALL_LIMIT, Index, SEATS};
@@ -13,7 +13,42 @@ use latches::Latch;
 use std::marker::PhantomData;
 use terms::{Outcome, Refusal};
 
+// The place of a seat.
+fn place_of(seat: u8) -> Result<usize, Refusal>
+    ensures { result ≡ (if nat_lt seat SEATS then Ok seat else Err Refusal.NoSuchSeat) }
+{
+    let at = usize::from(seat);
+    if at < SEATS {
+        Ok(at)
+    } else {
+        Err(Refusal::NoSuchSeat)
+    }
+}
+
 impl<C: Coding, L: Latch> Index<C, L> {
+    // Whether a seat is open with no operation.
+    fn idle(&self, at: usize) -> Result<(), Refusal>
+        requires { at < SEATS }
+        ensures { result ≡ idle_answer (seat_at (state_of self.now) at) }
+    {
+        match self.seats[at] {
+            Seat::Closed => Err(Refusal::NotOpen),
+            Seat::Busy(_) => Err(Refusal::Busy),
+            Seat::Idle => Ok(()),
+        }
+    }
+
+    // Counts a call, where the index accepts one more.
+    fn count_call(&mut self) -> Result<(), Refusal>
+        ensures { DidCount (state_of self.old) (state_of self.new) result }
+    {
+        if self.calls >= CALL_LIMIT {
+            return Err(Refusal::CallLimit);
+        }
+        self.calls += 1;
+        Ok(())
+    }
+
     /// An index without entries, whose seats are closed.
     pub fn new() -> Self
         ensures { NewIndex (state_of result) }
@@ -31,18 +66,12 @@ impl<C: Coding, L: Latch> Index<C, L> {
     pub fn open(&mut self, seat: u8) -> Result<(), Refusal>
         ensures { DidOpen seat (state_of self.old) (state_of self.new) result }
     {
-        let at = seat as usize;
-        if at >= SEATS {
-            return Err(Refusal::NoSuchSeat);
-        }
+        let at = place_of(seat)?;
         let Seat::Closed = self.seats[at] else {
             return Err(Refusal::AlreadyOpen);
         };
-        if self.calls >= CALL_LIMIT {
-            return Err(Refusal::CallLimit);
-        }
+        self.count_call()?;
         self.seats[at] = Seat::Idle;
-        self.calls += 1;
         Ok(())
     }
 
@@ -50,20 +79,10 @@ impl<C: Coding, L: Latch> Index<C, L> {
     pub fn close(&mut self, seat: u8) -> Result<(), Refusal>
         ensures { DidClose seat (state_of self.old) (state_of self.new) result }
     {
-        let at = seat as usize;
-        if at >= SEATS {
-            return Err(Refusal::NoSuchSeat);
-        }
-        match self.seats[at] {
-            Seat::Closed => return Err(Refusal::NotOpen),
-            Seat::Busy(_) => return Err(Refusal::Busy),
-            Seat::Idle => {}
-        }
-        if self.calls >= CALL_LIMIT {
-            return Err(Refusal::CallLimit);
-        }
+        let at = place_of(seat)?;
+        self.idle(at)?;
+        self.count_call()?;
         self.seats[at] = Seat::Closed;
-        self.calls += 1;
         Ok(())
     }
 
@@ -84,19 +103,10 @@ impl<C: Coding, L: Latch> Index<C, L> {
     fn begin(&mut self, seat: u8, key: C::Key, task: Task) -> Result<(), Refusal>
         ensures { DidBegin C.accepts C.bytes seat key task (state_of self.old) (state_of self.new) result }
     {
-        let at = seat as usize;
-        if at >= SEATS {
-            return Err(Refusal::NoSuchSeat);
-        }
-        match self.seats[at] {
-            Seat::Closed => return Err(Refusal::NotOpen),
-            Seat::Busy(_) => return Err(Refusal::Busy),
-            Seat::Idle => {}
-        }
+        let at = place_of(seat)?;
+        self.idle(at)?;
         let key = C::encode(key)?;
-        if self.calls >= CALL_LIMIT {
-            return Err(Refusal::CallLimit);
-        }
+        self.count_call()?;
         let begun = self.tree.epoch;
         self.seats[at] = Seat::Busy(Operation {
             task,
@@ -104,7 +114,6 @@ impl<C: Coding, L: Latch> Index<C, L> {
             begun,
             stage: Stage::Take,
         });
-        self.calls += 1;
         Ok(())
     }
 
@@ -112,10 +121,7 @@ impl<C: Coding, L: Latch> Index<C, L> {
     pub fn step(&mut self, seat: u8) -> Result<Outcome, Refusal>
         ensures { DidStep L.face seat (state_of self.old) (state_of self.new) result }
     {
-        let at = seat as usize;
-        if at >= SEATS {
-            return Err(Refusal::NoSuchSeat);
-        }
+        let at = place_of(seat)?;
         let found = self.seats[at];
         if let Seat::Closed = found {
             return Err(Refusal::NotOpen);
@@ -123,12 +129,9 @@ impl<C: Coding, L: Latch> Index<C, L> {
         let Seat::Busy(op) = found else {
             return Err(Refusal::NoOperation);
         };
-        if self.calls >= CALL_LIMIT {
-            return Err(Refusal::CallLimit);
-        }
+        self.count_call()?;
         let met = self.tree.meet::<L>(op.key, op.stage);
         let outcome = self.seats[at].advance(op, met);
-        self.calls += 1;
         Ok(outcome)
     }
 
@@ -136,11 +139,7 @@ impl<C: Coding, L: Latch> Index<C, L> {
     pub fn sweep(&mut self) -> Result<u16, Refusal>
         ensures { DidSweep (state_of self.old) (state_of self.new) result }
     {
-        if self.calls >= CALL_LIMIT {
-            return Err(Refusal::CallLimit);
-        }
-        let turned = self.tree.sweep(&self.seats);
-        self.calls += 1;
-        Ok(turned)
+        self.count_call()?;
+        Ok(self.tree.sweep(&self.seats))
     }
 }

@@ -1,5 +1,5 @@
 use Rattle.std.proofs.Common.{refl}
-use Rattle.index.proofs.Kept.{meets_moves}
+use Rattle.index.proofs.Meeting.{meets_moves}
 use Rattle.index.proofs.index.Index.step.Goals as goal
 
 pub advance-outcome-requires : goal.advance-outcome-requires

@@ -1,4 +1,4 @@
-use Rattle.std.proofs.Common.{◌≡◌, ℕ, ◌+◌, ◌<◌, ◌≤◌, length, sym, refl, ap, ◌∙◌, subst, arith}
+use Rattle.std.proofs.Common.{◌≡◌, ℕ, ◌+◌, ◌<◌, ◌≤◌, length, sym, ap, ◌∙◌, subst, arith}
 use Rattle.std.specs.List.{range_with_len}
 use Rattle.std.proofs.lemmas.List.FromFn.{length-range_with_len, get_or-range_with_len}
 use Rattle.pools.specs.Spare.{Below}
@@ -7,13 +7,9 @@ use Rattle.pools.proofs.slots.Slots.new.Goals as goal
 counting_below : (a n m : ℕ) → a + n ≤ m → Below (range_with_len a n) m
 counting_below a n m h k l = let b : k < n = rw length-range_with_len at l in let e = get_or-range_with_len a n k 0 b in omega (arith, e)
 
-pub returns : goal.returns
-returns g c =
+pub returns-clause-sound : goal.returns-clause-sound
+returns-clause-sound g c =
     let n = length c.args.table.now in
     let all = c.whole.ensures.queue ∙ c.number.ensures in
     let e : length c.number.new.table ≡ n = ap length c.number.ensures ∙ length-range_with_len c.args.from n in
-    record {
-      sound = (omega (arith, e, c.requires.0), c.whole.ensures.fits, subst (λ xs. Below xs g.row.N) (sym all) (counting_below c.args.from n g.row.N (omega (arith, c.requires.0))), omega (arith, c.whole.ensures.fits.1));
-      all = (all, refl);
-      len = c.whole.ensures.len ∙ e;
-    }
+    (omega (arith, e, c.requires.0), c.whole.ensures.fits, subst (λ xs. Below xs g.row.N) (sym all) (counting_below c.args.from n g.row.N (omega (arith, c.requires.0))), omega (arith, c.whole.ensures.fits.1))
