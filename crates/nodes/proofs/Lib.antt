@@ -1,5 +1,6 @@
 pub mod Views
 pub mod Listing
 pub mod Shifted
+pub mod Mapped
 pub mod Places
 pub mod Parted

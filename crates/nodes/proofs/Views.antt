@@ -1,4 +1,5 @@
-use Rattle.std.proofs.Common.{◌≡◌, ℕ, zero, suc, ◌+◌, ◌<◌, ◌≤◌, cond, eqb, Some, None, Option, sym, refl, ap, ◌∙◌, ⊎_elim, arith}
+use Rattle.std.proofs.Common.{◌≡◌, ℕ, zero, suc, ◌+◌, ◌<◌, ◌≤◌, Bool, false, not, ltb, cond, eqb, Some, None, Option, sym, refl, ap, ◌∙◌, ⊎_elim, arith}
+use Rattle.std.proofs.lemmas.Bool.Decides.{nat_tests}
 use Rattle.std.proofs.lemmas.Bool.{eq-eqb, ne_eqb, cases_eq, cond-true, cond-false, cases_lt, cases_order}
 use Rattle.nodes.specs.declared.child.Child.{Child}
 use Rattle.nodes.specs.declared.child.Edge.{Edge}
@@ -133,6 +134,10 @@ first_one f s (Some d) (Some e) x y =
     (λ (q : e.byte < d.byte). let z : ◌≡◌ {A = ℕ} 0 1 = (let h = x.2 e.byte y.0 q in let i = y.1 in cc) in absurd (omega arith))
     t)
     (cases_order d.byte e.byte)
+
+-- what is not full has room
+pub room_left : (b : Bool) (a n : ℕ) → b ≡ not (ltb a n) → b ≡ false → a < n
+room_left b a n e f = grind (arith, nat_tests)
 
 one_most : (o : Option Child) → one o ≤ 1
 one_most None = omega arith

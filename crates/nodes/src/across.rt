@@ -11,7 +11,7 @@ use crate::sorted::Sorted;
 
 // a node of kind B with all children of `node`
 pub fn carry<A: Branch, B: Branch>(node: &A) -> B
-    requires { count (A.Branch.view node.now) ≤ B.Branch.room }
+    requires { count (A.Branch.view node.now) ≤ B.Branch.ROOM }
     ensures { (k : ℕ) → B.Branch.view result k ≡ A.Branch.view node.now k }
 {
     let mut out = B::new();

@@ -26,7 +26,9 @@ impl<const N: usize> Sorted<N> {
 impl<const N: usize> Branch for Sorted<N> {
     ghost view = { of_sorted };
 
-    ghost room = { N };
+    const ROOM: usize = N;
+
+    ghost ROOM = { N };
 
     fn new() -> Self {
         Sorted {
@@ -50,15 +52,11 @@ impl<const N: usize> Branch for Sorted<N> {
         self.len
     }
 
-    fn full(&self) -> bool {
-        self.len >= N
-    }
-
     fn insert(&mut self, byte: u8, child: Child) -> bool {
-        let len = self.len;
-        if len >= N {
+        if self.full() {
             return false;
         }
+        let len = self.len;
         let at = self.seek(u16::from(byte));
         self.edges.copy_within(at..len, at + 1);
         self.edges[at] = Edge { byte, child };
