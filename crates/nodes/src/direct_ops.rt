@@ -1,4 +1,5 @@
 ghost use Rattle.std.specs.Prelude.{◌≡◌, ℕ, ◌+◌, ◌-◌, ◌<◌, ◌≤◌, true, false, cond};
+ghost use Rattle.std.proofs.Common.{rules};
 ghost use Rattle.nodes.specs.Kinds.{of_direct};
 
 use crate::branch::Branch;
@@ -56,4 +57,6 @@ impl Branch for Direct {
         self.children[usize::from(byte)] = None;
         self.len = len - 1;
     }
+
+    ghost bounded = { λ node. Prim.search rules };
 }

@@ -1,5 +1,6 @@
 ghost use Rattle.std.specs.Prelude.{◌≡◌, ℕ, ◌+◌, ◌-◌, ◌<◌, ◌≤◌, true, false};
 ghost use Rattle.nodes.specs.Placing.{renamed};
+ghost use Rattle.std.proofs.Common.{rules};
 ghost use Rattle.nodes.specs.Kinds.{of_placed};
 
 use crate::branch::Branch;
@@ -69,6 +70,8 @@ impl Branch for Placed {
         self.children[usize::from(place)] = self.children[last];
         self.len = last;
     }
+
+    ghost bounded = { λ node. Prim.search rules };
 }
 
 // place `old` becomes `new`, and another stays

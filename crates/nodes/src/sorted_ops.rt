@@ -1,6 +1,7 @@
 ghost use Rattle.std.specs.Prelude.{◌≡◌, ℕ, ◌+◌, ◌-◌, ◌<◌, ◌≤◌, true, false, cond, length, Some, None};
 ghost use Rattle.nodes.specs.View.{View, Changed, First, count, Taken};
 ghost use Rattle.nodes.specs.Listed.{edge_at};
+ghost use Rattle.std.proofs.Common.{rules};
 ghost use Rattle.nodes.specs.Kinds.{of_sorted};
 
 use crate::branch::Branch;
@@ -75,4 +76,6 @@ impl<const N: usize> Branch for Sorted<N> {
         self.edges.copy_within(at + 1..len, at);
         self.len = len - 1;
     }
+
+    ghost bounded = { λ node. Prim.search rules };
 }

@@ -1,0 +1,10 @@
+use Rattle.std.proofs.Common.{◌≡◌, ℕ, ◌<◌, None}
+use Rattle.nodes.specs.View.{without}
+use Rattle.nodes.proofs.across.other.Given as goal
+
+abbrev pub invariant-loop-edge : goal.invariant-loop-edge
+invariant-loop-edge g l =
+    (goal.iterator-loop-edge g).can_next l.edge-iterator
+    × (goal.iterator-loop-edge g).is_finite l.edge-iterator
+    × (l.edge-iterator.node.now ≡ l.node)
+    × ((k : ℕ) → k < l.edge-iterator.start → without (g.B.Branch.view l.node) l.byte k ≡ None)
