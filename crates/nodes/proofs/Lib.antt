@@ -1,4 +1,5 @@
 pub mod Views
+pub mod Walked
 pub mod Listing
 pub mod Shifted
 pub mod Mapped

@@ -1,4 +1,4 @@
-use Rattle.std.proofs.Common.{◌≡◌, ℕ, zero, suc, ◌+◌, ◌<◌, ◌≤◌, eqb, ◌⊎◌, List, length, take, Option, Bor, Some, None, sym, refl, ap, ◌∙◌, subst, inl, inr, ⊎_elim, arith, ltb, ltb-true, ltb-false, true, false, length-take-le, get_or-take}
+use Rattle.std.proofs.Common.{◌≡◌, ℕ, zero, suc, ◌<◌, ◌≤◌, eqb, ◌⊎◌, List, length, take, Option, Bor, Some, None, sym, refl, ap, ◌∙◌, subst, inl, inr, ⊎_elim, arith, ltb, ltb-true, ltb-false, true, false, length-take-le, get_or-take}
 use Rattle.std.proofs.lemmas.Bool.{eq-eqb, ne_eqb, cases_eq, cond-true, cond-false, cases_lt}
 use Rattle.nodes.specs.declared.child.Edge.{Edge}
 use Rattle.std.proofs.lemmas.List.{get_or_default, get_or_read}

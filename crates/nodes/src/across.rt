@@ -26,12 +26,7 @@ pub fn carry<A: Branch, B: Branch>(node: &A) -> B
 pub fn other<B: Branch>(node: &B, byte: u8) -> Option<Edge>
     ensures { First (without (B.Branch.view node.now) byte) 0 result }
 {
-    for edge in Edges::of(node) {
-        if edge.byte != byte {
-            return Some(edge);
-        }
-    }
-    None
+    Edges::of(node).find(|edge| edge.byte != byte)
 }
 
 // a node of the next larger kind, with all children of `node`
