@@ -42,9 +42,8 @@ impl Branch for Direct {
         if self.full() {
             return false;
         }
-        let len = self.len;
         self.children[usize::from(byte)] = Some(child);
-        self.len = len + 1;
+        self.len += 1;
         true
     }
 
@@ -53,9 +52,8 @@ impl Branch for Direct {
     }
 
     fn remove(&mut self, byte: u8) {
-        let len = self.len;
         self.children[usize::from(byte)] = None;
-        self.len = len - 1;
+        self.len -= 1;
     }
 
     ghost bounded = { λ node. Prim.search rules };

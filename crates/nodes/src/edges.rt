@@ -1,6 +1,6 @@
 ghost use Rattle.std.specs.Prelude.{◌≡◌, ℕ, ◌+◌, ◌-◌, ◌<◌, ◌≤◌};
 ghost use Rattle.std.specs.Iterator.{at_most};
-ghost use Rattle.nodes.specs.View.{Advances};
+ghost use Rattle.nodes.specs.Walking.{walked, reached, Walks};
 
 use crate::branch::Branch;
 use crate::child::Edge;
@@ -15,8 +15,8 @@ pub struct Edges<'a, B> {
 impl<'a, B: Branch> Edges<'a, B> {
     /// All children of a node.
     pub fn of(node: &'a B) -> Self
-        ensures whole { result.node.now ≡ node.now }
-        ensures start { result.start ≡ 0 }
+        ensures whole { walked result ≡ node.now }
+        ensures start { reached result ≡ 0 }
     {
         Edges { node, start: 0 }
     }
@@ -25,9 +25,9 @@ impl<'a, B: Branch> Edges<'a, B> {
 impl<'a, B: Branch> Iterator for Edges<'a, B> {
     type Item = Edge;
 
-    ghost next_gives = { λ s r t. (t.node ≡ s.node) × Advances (B.view s.node.now) s.start r t.start };
+    ghost next_gives = { Walks B.view };
 
-    ghost remaining = { λ s. at_most (256 - s.start) };
+    ghost remaining = { λ s. at_most (256 - reached s) };
 
     fn next(&mut self) -> Option<Edge> {
         let edge = self.node.from(self.start)?;

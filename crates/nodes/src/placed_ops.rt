@@ -1,6 +1,6 @@
 ghost use Rattle.std.specs.Prelude.{◌≡◌, ℕ, ◌+◌, ◌-◌, ◌<◌, ◌≤◌, true, false};
-ghost use Rattle.nodes.specs.Placing.{renamed};
 ghost use Rattle.std.proofs.Common.{rules};
+ghost use Rattle.nodes.specs.Placing.{renamed};
 ghost use Rattle.nodes.specs.Kinds.{of_placed};
 
 use crate::branch::Branch;
@@ -47,10 +47,9 @@ impl Branch for Placed {
         if self.full() {
             return false;
         }
-        let len = self.len;
-        self.children[len] = child;
-        self.places[usize::from(byte)] = Some(len as u8);
-        self.len = len + 1;
+        self.children[self.len] = child;
+        self.places[usize::from(byte)] = Some(self.len as u8);
+        self.len += 1;
         true
     }
 

@@ -1,7 +1,7 @@
 ghost use Rattle.std.specs.Prelude.{◌≡◌, ℕ, ◌+◌, ◌-◌, ◌<◌, ◌≤◌, true, false, cond, length, Some, None};
+ghost use Rattle.std.proofs.Common.{rules};
 ghost use Rattle.nodes.specs.View.{View, Changed, First, count, Taken};
 ghost use Rattle.nodes.specs.Listed.{edge_at};
-ghost use Rattle.std.proofs.Common.{rules};
 ghost use Rattle.nodes.specs.Kinds.{of_sorted};
 
 use crate::branch::Branch;
@@ -57,11 +57,10 @@ impl<const N: usize> Branch for Sorted<N> {
         if self.full() {
             return false;
         }
-        let len = self.len;
         let at = self.seek(u16::from(byte));
-        self.edges.copy_within(at..len, at + 1);
+        self.edges.copy_within(at..self.len, at + 1);
         self.edges[at] = Edge { byte, child };
-        self.len = len + 1;
+        self.len += 1;
         true
     }
 
@@ -72,9 +71,8 @@ impl<const N: usize> Branch for Sorted<N> {
 
     fn remove(&mut self, byte: u8) {
         let at = self.seek(u16::from(byte));
-        let len = self.len;
-        self.edges.copy_within(at + 1..len, at);
-        self.len = len - 1;
+        self.edges.copy_within(at + 1..self.len, at);
+        self.len -= 1;
     }
 
     ghost bounded = { λ node. Prim.search rules };

@@ -1,4 +1,4 @@
-use Rattle.std.proofs.Common.{◌≡◌, ◌+◌, ◌<◌, Bool, true, cond, Some, None, ap, ◌∙◌, subst, arith}
+use Rattle.std.proofs.Common.{◌≡◌, ◌+◌, ◌<◌, Bool, true, cond, Some, None, ◌∙◌, subst, arith}
 use Rattle.std.proofs.lemmas.Bool.{lt-ltb}
 use Rattle.nodes.specs.View.{Changed, First}
 use Rattle.nodes.proofs.Views.{count_fewer, carried_low, changed_off}
@@ -23,7 +23,7 @@ loop-edge-preserved g c =
     let put : Changed o h e.byte (Some e.child) = subst (λ (b : Bool). Changed o h e.byte (cond b (Some e.child) None)) room c.insert.ensures.change in (
       tt,
       tt,
-      ap (λ (x : _). x.now) steps.0 ∙ i.2,
+      steps.0 ∙ i.2,
       (λ k l. carried_low f o h s.start e i.3 i.4 n put k (omega arith)),
       (λ k l. changed_off o h e.byte (Some e.child) put k (λ q. omega arith) ∙ i.4 k (let m = n.0 in omega arith)),
     )
