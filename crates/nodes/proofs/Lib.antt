@@ -1,6 +1,7 @@
 pub mod Views
+pub mod Walked
 pub mod Listing
-pub mod Shift
 pub mod Shifted
+pub mod Mapped
 pub mod Places
 pub mod Parted

@@ -1,112 +1,141 @@
-use Rattle.std.proofs.Common.{◌≡◌, ℕ, zero, suc, ◌+◌, ◌<◌, ◌≤◌, eqb, ◌⊎◌, List, get_or, Some, None, sym, refl, ap, ◌∙◌, inl, inr, ⊎_elim, arith}
+use Rattle.std.proofs.Common.{◌≡◌, ℕ, zero, suc, ◌<◌, ◌≤◌, eqb, ◌⊎◌, List, length, take, Option, Bor, Some, None, sym, refl, ap, ◌∙◌, subst, inl, inr, ⊎_elim, arith, ltb, ltb-true, ltb-false, true, false, length-take-le, get_or-take}
 use Rattle.std.proofs.lemmas.Bool.{eq-eqb, ne_eqb, cases_eq, cond-true, cond-false, cases_lt}
-use Rattle.nodes.specs.declared.child.Child.{Child}
-use Rattle.nodes.specs.View.{Taken, one, count_to}
-use Rattle.nodes.specs.Listed.{listed, Rising, no_child}
+use Rattle.nodes.specs.declared.child.Edge.{Edge}
+use Rattle.std.proofs.lemmas.List.{get_or_default, get_or_read}
+use Rattle.std.proofs.lemmas.List.Sorted.{IsPartitionedBy-ltb}
+use Rattle.std.specs.List.Sorted.{IsPartitionPoint, IsPartitionedBy}
+use Rattle.std.specs.Slice.{IsItemAt}
+use Rattle.std.specs.Option.{option_copied}
+use Rattle.nodes.specs.View.{First, Taken}
+use Rattle.nodes.specs.Listed.{listed, Rising, edge_at, no_edge}
 use Rattle.nodes.proofs.Views.{none_taken}
 
 -- a byte that none of the first n is
-abbrev pub Absent : ℕ → List ℕ → ℕ → Type 0
-Absent n bs k = (i : ℕ) → i < n → get_or bs i 0 ≡ k → ⊥
+abbrev pub Absent : ℕ → List Edge → ℕ → Type 0
+Absent n es k = (i : ℕ) → i < n → (edge_at es i).byte ≡ k → ⊥
 
-pub listed_miss : (n : ℕ) (bs : List ℕ) (cs : List Child) (k : ℕ) → Absent n bs k → listed n bs cs k ≡ None
+pub listed_miss : (n : ℕ) (es : List Edge) (k : ℕ) → Absent n es k → listed n es k ≡ None
 unfolding listed
-listed_miss zero bs cs k h = refl
-listed_miss (suc n) bs cs k h =
-    cond-false (eqb (get_or bs n 0) k) (Some (get_or cs n no_child)) (listed n bs cs k) (ne_eqb (get_or bs n 0) k (h n (omega arith)))
-    ∙ listed_miss n bs cs k (λ i l. h i (omega arith))
+listed_miss zero es k h = refl
+listed_miss (suc n) es k h =
+    cond-false (eqb (edge_at es n).byte k) (Some (edge_at es n).child) (listed n es k) (ne_eqb (edge_at es n).byte k (h n (omega arith)))
+    ∙ listed_miss n es k (λ i l. h i (omega arith))
 
-pub listed_hit : (n : ℕ) (bs : List ℕ) (cs : List Child) → Rising n bs → (i : ℕ) → i < n → (k : ℕ) → get_or bs i 0 ≡ k → listed n bs cs k ≡ Some (get_or cs i no_child)
+pub listed_hit : (n : ℕ) (es : List Edge) → Rising n es → (i : ℕ) → i < n → (k : ℕ) → (edge_at es i).byte ≡ k → listed n es k ≡ Some (edge_at es i).child
 unfolding listed
-listed_hit zero bs cs r i l k e = absurd (omega arith)
-listed_hit (suc n) bs cs r i l k e =
+listed_hit zero es r i l k e = absurd (omega arith)
+listed_hit (suc n) es r i l k e =
     ⊎_elim
     (λ (s : i ≡ n).
-    let f = ap (λ j. get_or bs j 0) s in
-    let g = ap (λ j. Some (get_or cs j no_child)) s in
-    cond-true (eqb (get_or bs n 0) k) (Some (get_or cs n no_child)) (listed n bs cs k) (eq-eqb (get_or bs n 0) k (sym f ∙ e)) ∙ sym g)
+    let f = ap (λ j. (edge_at es j).byte) s in
+    let g = ap (λ j. Some (edge_at es j).child) s in
+    cond-true (eqb (edge_at es n).byte k) (Some (edge_at es n).child) (listed n es k) (eq-eqb (edge_at es n).byte k (sym f ∙ e)) ∙ sym g)
     (λ (s : i ≡ n → ⊥).
     let f = r i n (omega arith) (omega arith) in
-    cond-false (eqb (get_or bs n 0) k) (Some (get_or cs n no_child)) (listed n bs cs k) (ne_eqb (get_or bs n 0) k (λ (q : get_or bs n 0 ≡ k). omega arith))
-    ∙ listed_hit n bs cs (λ a b p q. r a b p (omega arith)) i (omega arith) k e)
+    cond-false (eqb (edge_at es n).byte k) (Some (edge_at es n).child) (listed n es k) (ne_eqb (edge_at es n).byte k (λ (q : (edge_at es n).byte ≡ k). omega arith))
+    ∙ listed_hit n es (λ a b p q. r a b p (omega arith)) i (omega arith) k e)
     (cases_eq i n)
 
 -- the place of a byte, or that it is absent
-pub placed : (n : ℕ) (bs : List ℕ) (k : ℕ) → ((i : ℕ) × (i < n) × (get_or bs i 0 ≡ k)) ⊎ Absent n bs k
-placed zero bs k = inr (λ i l e. omega arith)
-placed (suc n) bs k =
+pub placed : (n : ℕ) (es : List Edge) (k : ℕ) → ((i : ℕ) × (i < n) × ((edge_at es i).byte ≡ k)) ⊎ Absent n es k
+placed zero es k = inr (λ i l e. omega arith)
+placed (suc n) es k =
     ⊎_elim
     (λ e. inl (n, omega arith, e))
     (λ d. ⊎_elim
     (λ w. inl (w.0, let h = w.1 in omega arith, w.2))
-    (λ a. inr (λ i l e. ⊎_elim (λ (s : i ≡ n). d (sym (ap (λ j. get_or bs j 0) s) ∙ e)) (λ (s : i ≡ n → ⊥). a i (omega arith) e) (cases_eq i n)))
-    (placed n bs k))
-    (cases_eq (get_or bs n 0) k)
+    (λ a. inr (λ i l e. ⊎_elim (λ (s : i ≡ n). d (sym (ap (λ j. (edge_at es j).byte) s) ∙ e)) (λ (s : i ≡ n → ⊥). a i (omega arith) e) (cases_eq i n)))
+    (placed n es k))
+    (cases_eq (edge_at es n).byte k)
 
 -- a taken byte has a place
-pub taken_place : (n : ℕ) (bs : List ℕ) (cs : List Child) (k : ℕ) → Taken (listed n bs cs k) → (i : ℕ) × (i < n) × (get_or bs i 0 ≡ k)
-taken_place n bs cs k t = ⊎_elim (λ w. w) (λ a. absurd (none_taken (listed n bs cs k) (listed_miss n bs cs k a) t)) (placed n bs k)
+pub taken_place : (n : ℕ) (es : List Edge) (k : ℕ) → Taken (listed n es k) → (i : ℕ) × (i < n) × ((edge_at es i).byte ≡ k)
+taken_place n es k t = ⊎_elim (λ w. w) (λ a. absurd (none_taken (listed n es k) (listed_miss n es k a) t)) (placed n es k)
 
--- where a search by order ends: the bytes before are below k, the one there is not
-pub seek_miss : (n p : ℕ) (bs : List ℕ) (k : ℕ) → Rising n bs → ((i : ℕ) → i < p → get_or bs i 0 < k) → (p < n → k < get_or bs p 0) → Absent n bs k
-seek_miss n p bs k r below here i l e =
+-- where a search for k ends: the bytes before are below k, the one there is not
+pub record Sought (n p : ℕ) (es : List Edge) (k : ℕ) : Type 0 where
+  pub below : (i : ℕ) → i < p → (edge_at es i).byte < k
+  pub here : p < n → k ≤ (edge_at es p).byte
+
+pub found : (n p : ℕ) (es : List Edge) (b k : ℕ) → b ≡ k → ((i : ℕ) → i < p → (edge_at es i).byte < b) → (p < n → b ≤ (edge_at es p).byte) → Sought n p es k
+found n p es b k e below here = subst (λ (k : ℕ). Sought n p es k) e (record { below = below; here = here })
+
+-- from there on no byte is below k
+sought_after : (n p : ℕ) (es : List Edge) (k : ℕ) → Rising n es → Sought n p es k → (i : ℕ) → p ≤ i → i < n → (i ≡ p) ⊎ (k < (edge_at es i).byte)
+sought_after n p es k r s i m l =
+    let h = s.here (omega arith) in
+    ⊎_elim (λ (q : i ≡ p). inl q) (λ (q : i ≡ p → ⊥). let f = r p i (omega arith) l in inr (omega arith)) (cases_eq i p)
+
+-- the bytes below k are the first ones
+pub parted : (n : ℕ) (es : List Edge) (k : ℕ) → n ≤ length es → Rising n es → IsPartitionedBy (λ (e : Edge). ltb e.byte k) (take n es)
+parted n es k m r = IsPartitionedBy-ltb (λ (e : Edge). e.byte) (take n es) k (λ i j d le l.
+    let t = length-take-le n es m in
+    let x = ap (λ (e : Edge). e.byte) (get_or-take n es i d (omega arith) ∙ get_or_default es i d no_edge (omega arith)) in
+    let y = ap (λ (e : Edge). e.byte) (get_or-take n es j d (omega arith) ∙ get_or_default es j d no_edge (omega arith)) in
     ⊎_elim
-    (λ (s : i < p). let f = below i s in omega arith)
-    (λ (s : p ≤ i).
-    let h = here (omega arith) in
+    (λ (q : i ≡ j). let z = ap (λ i. (edge_at es i).byte) q in omega arith)
+    (λ (q : i ≡ j → ⊥). let z = r i j (omega arith) (omega arith) in omega arith)
+    (cases_eq i j))
+
+-- and a search for where they end finds k's place
+pub sought : (n p : ℕ) (es : List Edge) (k : ℕ) → n ≤ length es → IsPartitionPoint (λ (e : Edge). ltb e.byte k ≡ true) (λ (e : Edge). ltb e.byte k ≡ false) (take n es) p → p ≤ n → Sought n p es k
+sought n p es k m w pn =
+    let t = length-take-le n es m in
+    record {
+      below = λ i l. let x = ltb-true _ k (w.0 i no_edge (omega arith) l) in let y = ap (λ (e : Edge). e.byte) (get_or-take n es i no_edge (omega arith)) in omega arith;
+      here = λ l. let x = ltb-false _ k (w.1 p no_edge (omega arith) (omega arith)) in let y = ap (λ (e : Edge). e.byte) (get_or-take n es p no_edge (omega arith)) in omega arith;
+    }
+
+-- a byte that does not stand there is absent
+pub seek_miss : (n p : ℕ) (es : List Edge) (k : ℕ) → Rising n es → Sought n p es k → (p < n → (edge_at es p).byte ≡ k → ⊥) → Absent n es k
+seek_miss n p es k r s not i l e =
     ⊎_elim
-    (λ (q : i ≡ p). let f = ap (λ j. get_or bs j 0) q in omega arith)
-    (λ (q : i ≡ p → ⊥). let f = r p i (omega arith) l in omega arith)
-    (cases_eq i p))
+    (λ (m : i < p). let f = s.below i m in omega arith)
+    (λ (m : p ≤ i).
+    ⊎_elim
+    (λ (q : i ≡ p). not (omega arith) (sym (ap (λ j. (edge_at es j).byte) q) ∙ e))
+    (λ (q : k < (edge_at es i).byte). omega arith)
+    (sought_after n p es k r s i m l))
     (cases_lt i p)
 
-pub seek_hit : (n p : ℕ) (bs : List ℕ) (k : ℕ) → Rising n bs → ((i : ℕ) → i < p → get_or bs i 0 < k) → (p < n → k ≤ get_or bs p 0) → (i : ℕ) × (i < n) × (get_or bs i 0 ≡ k) → (p < n) × (get_or bs p 0 ≡ k)
-seek_hit n p bs k r below here w =
-    let l = w.1 in
-    let e = w.2 in
-    ⊎_elim
-    (λ (s : w.0 < p). let f = below w.0 s in absurd (omega arith))
-    (λ (s : p ≤ w.0).
-    let h = here (omega arith) in
-    ⊎_elim
-    (λ (q : w.0 ≡ p). let f = ap (λ j. get_or bs j 0) q in (omega arith, omega arith))
-    (λ (q : w.0 ≡ p → ⊥). let f = r p w.0 (omega arith) l in absurd (omega arith))
-    (cases_eq w.0 p))
-    (cases_lt w.0 p)
+-- no byte from k on stands below the one there
+pub seek_first : (n p : ℕ) (es : List Edge) (k : ℕ) → Rising n es → Sought n p es k → (j : ℕ) → k ≤ j → (p < n → j < (edge_at es p).byte) → listed n es j ≡ None
+seek_first n p es k r s j m h = listed_miss n es j
+    (seek_miss n p es j r (record { below = λ i l. let f = s.below i l in omega arith; here = λ l. let f = h l in omega arith }) (λ l e. let f = h l in omega arith))
 
 -- such a search finds a taken byte
-pub seek_taken : (n p : ℕ) (bs : List ℕ) (cs : List Child) (k : ℕ) → Rising n bs → ((i : ℕ) → i < p → get_or bs i 0 < k) → (p < n → k ≤ get_or bs p 0) → Taken (listed n bs cs k) → (p < n) × (get_or bs p 0 ≡ k)
-seek_taken n p bs cs k r below here t = seek_hit n p bs k r below here (taken_place n bs cs k t)
-
--- and it finds no free one
-pub seek_free : (n p : ℕ) (bs : List ℕ) (cs : List Child) (k : ℕ) → Rising n bs → (p < n → k ≤ get_or bs p 0) → listed n bs cs k ≡ None → p < n → k < get_or bs p 0
-seek_free n p bs cs k r here e l =
-    let h = here l in
-    ⊎_elim
-    (λ (q : get_or bs p 0 ≡ k). let z : ◌≡◌ {A = ℕ} 0 1 = let f = listed_hit n bs cs r p l k q in cc in absurd (omega arith))
-    (λ (q : get_or bs p 0 ≡ k → ⊥). omega arith)
-    (cases_eq (get_or bs p 0) k)
-
--- where a search for k ends is how many bytes below k are taken
-pub rank : (n : ℕ) (bs : List ℕ) (cs : List Child) (k p : ℕ) → p ≤ n → Rising n bs → ((i : ℕ) → i < p → get_or bs i 0 < k) → (p < n → k ≤ get_or bs p 0) → count_to (listed n bs cs) k ≡ p
-unfolding count_to
-rank n bs cs zero p pn r low here = ⊎_elim (λ (e : p ≡ 0). sym e) (λ (e : p ≡ 0 → ⊥). let h = low 0 (omega arith) in absurd (omega arith)) (cases_eq p 0)
-rank n bs cs (suc k) p pn r low here =
-    ⊎_elim
-    (λ w.
-    let i = w.0 in
+pub seek_taken : (n p : ℕ) (es : List Edge) (k : ℕ) → Rising n es → Sought n p es k → Taken (listed n es k) → (p < n) × ((edge_at es p).byte ≡ k)
+seek_taken n p es k r s t =
+    let w = taken_place n es k t in
     let l = w.1 in
     let e = w.2 in
-    let one-is = ap one (listed_hit n bs cs r i l k e) in
-    let before : i < p = ⊎_elim (λ (s : i < p). s) (λ (s : p ≤ i). let h = here (omega arith) in
-    ⊎_elim (λ (q : i ≡ p). let f = ap (λ j. get_or bs j 0) q in absurd (omega arith)) (λ (q : i ≡ p → ⊥). let f = r p i (omega arith) l in absurd (omega arith)) (cases_eq i p)) (cases_lt i p) in
-    let last : p ≡ i + 1 = ⊎_elim (λ (s : p ≡ i + 1). s) (λ (s : p ≡ i + 1 → ⊥). let f = r i (i + 1) (omega arith) (omega arith) in let h = low (i + 1) (omega arith) in absurd (omega arith)) (cases_eq p (i + 1)) in
-    let rec = rank n bs cs k i (omega arith) r (λ j m. let f = r j i m l in omega arith) (λ m. omega arith) in
-    omega arith)
-    (λ a.
-    let one-is = ap one (listed_miss n bs cs k a) in
-    let rec = rank n bs cs k p pn r
-    (λ j m. let f = low j m in let g = a j (omega arith) in ⊎_elim (λ (q : get_or bs j 0 ≡ k). absurd (g q)) (λ (q : get_or bs j 0 ≡ k → ⊥). omega arith) (cases_eq (get_or bs j 0) k))
-    (λ m. let h = here m in omega arith) in
-    omega arith)
-    (placed n bs k)
+    ⊎_elim
+    (λ (m : w.0 < p). let f = s.below w.0 m in absurd (omega arith))
+    (λ (m : p ≤ w.0).
+    ⊎_elim
+    (λ (q : w.0 ≡ p). let f = ap (λ j. (edge_at es j).byte) q in (omega arith, omega arith))
+    (λ (q : k < (edge_at es w.0).byte). absurd (omega arith))
+    (sought_after n p es k r s w.0 m w.1))
+    (cases_lt w.0 p)
+
+-- and it finds no free one
+pub seek_free : (n p : ℕ) (es : List Edge) (k : ℕ) → Rising n es → Sought n p es k → listed n es k ≡ None → p < n → k < (edge_at es p).byte
+seek_free n p es k r s e l =
+    let h = s.here l in
+    ⊎_elim
+    (λ (q : (edge_at es p).byte ≡ k). let z : ◌≡◌ {A = ℕ} 0 1 = let f = listed_hit n es r p l k q in cc in absurd (omega arith))
+    (λ (q : (edge_at es p).byte ≡ k → ⊥). omega arith)
+    (cases_eq (edge_at es p).byte k)
+
+-- what is read there is the first child from k on
+pub seek_read : (n p : ℕ) (es : List Edge) (k : ℕ) → n ≤ length es → Rising n es → Sought n p es k → (o : Option (Bor Edge)) → IsItemAt (take n es) p o → First (listed n es) k (option_copied o)
+seek_read n p es k m r s None i = let t = length-take-le n es m in λ j l. seek_first n p es k r s j l (λ h. absurd (omega arith))
+seek_read n p es k m r s (Some x) i =
+    let t = length-take-le n es m in
+    let l : p < n = omega arith in
+    let e : x.now ≡ edge_at es p = get_or_read (take n es) p x.now (omega arith) i.1 no_edge ∙ get_or-take n es p no_edge l in
+    let b = ap (λ (e : Edge). e.byte) e in (
+      (let h = s.here l in omega arith),
+      listed_hit n es r p l x.now.byte (sym b) ∙ ap (λ (e : Edge). Some e.child) (sym e),
+      (λ j h q. seek_first n p es k r s j h (λ _. omega arith)),
+    )

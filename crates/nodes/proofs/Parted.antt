@@ -1,14 +1,24 @@
-use Rattle.std.proofs.Common.{◌≡◌, ℕ, ◌+◌, ◌<◌, ◌≤◌, List, length, get_or, take, drop, sym, ◌∙◌, arith, length-drop, length-take-le, get_or-drop, get_or-take}
-use Rattle.std.proofs.lemmas.List.{take-take}
+use Rattle.std.proofs.Common.{◌≡◌, Bool, ℕ, suc, ◌+◌, eqb, List, [], ◌∷◌, refl, sym, ap₂, ◌∙◌, subst, ⊎_elim, arith}
+use Rattle.std.proofs.lemmas.Bool.{cases_eq, cond-true, cond-false, eq-eqb, ne_eqb}
+use Rattle.std.specs.List.{zip, prefix_len}
 use Rattle.nodes.specs.Kept.{Agree}
 
--- the first n of bs and key from s on agree on i bytes, and part there or one ends
-pub agree_at : (bs key : List ℕ) (n s i : ℕ) → n ≤ length bs → i ≤ n → s + i ≤ length key → take i bs ≡ take i (drop s key) → (i < n → s + i < length key → get_or bs i 0 ≡ get_or key (s + i) 0 → ⊥) → Agree (take n bs) (drop s key) i
-agree_at bs key n s i l m k e part =
-    let a = length-take-le n bs l in
-    let d = length-drop s key in (
-      omega arith,
-      omega arith,
-      take-take i n bs m ∙ e,
-      (λ x y q. part (omega arith) (omega arith) (sym (get_or-take n bs i 0 (omega arith)) ∙ q ∙ get_or-drop s key i 0)),
-    )
+-- whether the two of a pair are one
+abbrev pub same : ℕ × ℕ → Bool
+same p = eqb p.0 p.1
+
+-- two lists agree on as many bytes as there are equal pairs from the front on
+pub agree_zip : (xs ys : List ℕ) → Agree xs ys (prefix_len same (zip xs ys))
+agree_zip [] ys = (omega arith, omega arith, refl, (λ l m q. omega arith))
+agree_zip (x ∷ xs) [] = (omega arith, omega arith, refl, (λ l m q. omega arith))
+agree_zip (x ∷ xs) (y ∷ ys) =
+    let n = prefix_len same (zip xs ys) in
+    ⊎_elim
+    (λ (e : x ≡ y).
+    let i = agree_zip xs ys in
+    let long : suc n ≡ prefix_len same (zip (x ∷ xs) (y ∷ ys)) = (let s : suc n ≡ 1 + n = omega arith in s ∙ sym (cond-true (eqb x y) (1 + n) 0 (eq-eqb x y e))) in
+    subst (λ (m : ℕ). Agree (x ∷ xs) (y ∷ ys) m) long (omega arith, omega arith, ap₂ ◌∷◌ e i.2, (λ l m q. i.3 (omega arith) (omega arith) q)))
+    (λ (e : x ≡ y → ⊥).
+    let none : 0 ≡ prefix_len same (zip (x ∷ xs) (y ∷ ys)) = sym (cond-false (eqb x y) (1 + n) 0 (ne_eqb x y e)) in
+    subst (λ (m : ℕ). Agree (x ∷ xs) (y ∷ ys) m) none (omega arith, omega arith, refl, (λ l m q. e q)))
+    (cases_eq x y)

@@ -1,4 +1,5 @@
-use Rattle.std.proofs.Common.{◌≡◌, ℕ, zero, suc, ◌+◌, ◌<◌, ◌≤◌, cond, eqb, Some, None, Option, sym, refl, ap, ◌∙◌, ⊎_elim, arith}
+use Rattle.std.proofs.Common.{◌≡◌, ℕ, zero, suc, ◌+◌, ◌<◌, ◌≤◌, Bool, false, not, ltb, cond, eqb, Some, None, Option, sym, refl, ap, ◌∙◌, ⊎_elim, arith}
+use Rattle.std.proofs.lemmas.Bool.Decides.{nat_tests}
 use Rattle.std.proofs.lemmas.Bool.{eq-eqb, ne_eqb, cases_eq, cond-true, cond-false, cases_lt, cases_order}
 use Rattle.nodes.specs.declared.child.Child.{Child}
 use Rattle.nodes.specs.declared.child.Edge.{Edge}
@@ -16,10 +17,6 @@ changed_from f g b o here off k =
     (λ e. ap g e ∙ here ∙ sym (cond-true (eqb k b) o (f k) (eq-eqb k b e)))
     (λ n. off k n ∙ sym (cond-false (eqb k b) o (f k) (ne_eqb k b n)))
     (cases_eq k b)
-
--- a byte that gets its own answer again
-pub changed_same : (f : View) (b : ℕ) (o : Option Child) → f b ≡ o → Changed f f b o
-changed_same f b o e = changed_from f f b o e (λ k n. refl)
 
 pub count_to_off : (f g : View) (b : ℕ) (o : Option Child) → Changed f g b o → (n : ℕ) → n ≤ b → count_to g n ≡ count_to f n
 unfolding count_to
@@ -134,25 +131,6 @@ first_one f s (Some d) (Some e) x y =
     t)
     (cases_order d.byte e.byte)
 
-one_most : (o : Option Child) → one o ≤ 1
-one_most None = omega arith
-one_most (Some c) = omega arith
-
-count_to_most : (f : View) (n : ℕ) → count_to f n ≤ n
-unfolding count_to
-count_to_most f zero = omega arith
-count_to_most f (suc n) = let i = count_to_most f n in let e = one_most (f n) in omega arith
-
-pub count_most : (f : View) → count f ≤ 256
-unfolding count
-count_most f = count_to_most f 256
-
-count_ext : (f g : View) → ((k : ℕ) → f k ≡ g k) → count f ≡ count g
-count_ext f g h =
-    let a = count_le g f (λ k. let e = ap one (h k) in omega arith) in
-    let b = count_le f g (λ k. let e = ap one (h k) in omega arith) in
-    omega arith
-
-first_ext : (f g : View) → ((k : ℕ) → f k ≡ g k) → (s : ℕ) (q : Option Edge) → First f s q → First g s q
-first_ext f g h s None x = λ k l. sym (h k) ∙ x k l
-first_ext f g h s (Some e) x = (x.0, sym (h e.byte) ∙ x.1, (λ k l m. sym (h k) ∙ x.2 k l m))
+-- what is not full has room
+pub room_left : (b : Bool) (a n : ℕ) → b ≡ not (ltb a n) → b ≡ false → a < n
+room_left b a n e f = grind (arith, nat_tests)

@@ -8,7 +8,7 @@ use Rattle.nodes.specs.Placing.{placed, direct}
 
 -- the view of each layout
 abbrev pub of_sorted : {n : ℕ} → Sorted n → View
-of_sorted s = listed s.len s.bytes s.children
+of_sorted s = listed s.len s.edges
 
 abbrev pub of_placed : Placed → View
 of_placed s = placed s.places s.children

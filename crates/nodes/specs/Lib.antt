@@ -3,3 +3,4 @@ pub mod Listed
 pub mod Placing
 pub mod Kinds
 pub mod Kept
+pub mod Walking

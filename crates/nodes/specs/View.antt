@@ -1,4 +1,4 @@
-use Rattle.std.specs.Prelude.{◌≡◌, ℕ, zero, suc, ◌+◌, ◌<◌, ◌≤◌, cond, Some, None, Option, ◌==◌}
+use Rattle.std.specs.Prelude.{◌≡◌, ℕ, zero, suc, ◌+◌, ◌<◌, ◌≤◌, cond, Some, None, Option, MatchOption, ◌==◌}
 use Rattle.nodes.specs.declared.child.Child.{Child}
 use Rattle.nodes.specs.declared.child.Edge.{Edge}
 
@@ -31,6 +31,10 @@ count f = count_to f 256
 abbrev pub First : View → ℕ → Option Edge → Type 0
 First f s None = (k : ℕ) → s ≤ k → f k ≡ None
 First f s (Some e) = (s ≤ e.byte) × (f e.byte ≡ Some e.child) × ((k : ℕ) → s ≤ k → k < e.byte → f k ≡ None)
+
+-- from s on the next child is r, and the one after it is looked for from t on
+abbrev pub Advances : View → ℕ → Option Edge → ℕ → Type 0
+Advances f s r t = First f s r × MatchOption r (t ≡ s) (λ e. t ≡ e.byte + 1)
 
 -- no byte is taken
 abbrev pub Bare : View → Type 0

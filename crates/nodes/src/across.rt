@@ -1,24 +1,23 @@
 // What holds of every layout alike: written once, over the view.
-ghost use Rattle.std.specs.Prelude.{◌≡◌, ℕ, ◌+◌, ◌-◌, ◌<◌, ◌≤◌, Some, None};
+ghost use Rattle.std.specs.Prelude.{◌≡◌, ℕ, ◌+◌, ◌-◌, ◌<◌, ◌≤◌};
+ghost use Rattle.std.proofs.Common.{rules};
 ghost use Rattle.nodes.specs.View.{First, count, without};
-ghost use Rattle.nodes.specs.Kinds.{of_sorted, of_placed, of_direct};
 
-use crate::branch::Branch;
+use crate::branch::{Branch, Grow};
 use crate::child::Edge;
 use crate::direct::Direct;
+use crate::edges::Edges;
 use crate::placed::Placed;
 use crate::sorted::Sorted;
 
 // a node of kind B with all children of `node`
 pub fn carry<A: Branch, B: Branch>(node: &A) -> B
-    requires { count (A.Branch.view node.now) ≤ B.Branch.room }
+    requires { count (A.Branch.view node.now) ≤ B.Branch.ROOM }
     ensures { (k : ℕ) → B.Branch.view result k ≡ A.Branch.view node.now k }
 {
     let mut out = B::new();
-    let mut start: u16 = 0;
-    while let Some(edge) = node.from(start) {
+    for edge in Edges::of(node) {
         let _ = out.insert(edge.byte, edge.child);
-        start = edge.byte as u16 + 1;
     }
     out
 }
@@ -27,26 +26,30 @@ pub fn carry<A: Branch, B: Branch>(node: &A) -> B
 pub fn other<B: Branch>(node: &B, byte: u8) -> Option<Edge>
     ensures { First (without (B.Branch.view node.now) byte) 0 result }
 {
-    match node.from(0) {
-        Some(edge) if edge.byte == byte => node.from(byte as u16 + 1),
-        first => first,
-    }
+    Edges::of(node).find(|edge| edge.byte != byte)
 }
 
-pub fn grown4(node: &Sorted<4>) -> Sorted<16>
-    ensures { (k : ℕ) → of_sorted result k ≡ of_sorted node.now k }
+// a node of the next larger kind, with all children of `node`
+pub fn grown<B: Grow>(node: &B) -> B::Larger
+    ensures { (k : ℕ) → B.Larger.Branch.view result k ≡ B.Branch.view node.now k }
 {
     carry(node)
 }
 
-pub fn grown16(node: &Sorted<16>) -> Placed
-    ensures { (k : ℕ) → of_placed result k ≡ of_sorted node.now k }
-{
-    carry(node)
+impl Grow for Sorted<4> {
+    type Larger = Sorted<16>;
+
+    ghost wider = { Prim.search rules };
 }
 
-pub fn grown48(node: &Placed) -> Direct
-    ensures { (k : ℕ) → of_direct result k ≡ of_placed node.now k }
-{
-    carry(node)
+impl Grow for Sorted<16> {
+    type Larger = Placed;
+
+    ghost wider = { Prim.search rules };
+}
+
+impl Grow for Placed {
+    type Larger = Direct;
+
+    ghost wider = { Prim.search rules };
 }

@@ -1,4 +1,5 @@
 ghost use Rattle.std.specs.Prelude.{◌≡◌, ℕ, ◌+◌, ◌-◌, ◌<◌, ◌≤◌, true, false, cond};
+ghost use Rattle.std.proofs.Common.{rules};
 ghost use Rattle.nodes.specs.Kinds.{of_direct};
 
 use crate::branch::Branch;
@@ -8,7 +9,9 @@ use crate::direct::Direct;
 impl Branch for Direct {
     ghost view = { of_direct };
 
-    ghost room = { 256 };
+    const ROOM: usize = 256;
+
+    ghost ROOM = { 256 };
 
     fn new() -> Self {
         Direct {
@@ -18,16 +21,14 @@ impl Branch for Direct {
     }
 
     fn find(&self, byte: u8) -> Option<Child> {
-        self.children[byte as usize]
+        self.children[usize::from(byte)]
     }
 
     fn from(&self, start: u16) -> Option<Edge> {
-        for i in start as usize..256 {
-            if let Some(child) = self.children[i] {
-                return Some(Edge {
-                    byte: i as u8,
-                    child,
-                });
+        for i in start..256 {
+            let byte = i as u8;
+            if let Some(child) = self.find(byte) {
+                return Some(Edge { byte, child });
             }
         }
         None
@@ -37,27 +38,23 @@ impl Branch for Direct {
         self.len
     }
 
-    fn full(&self) -> bool {
-        self.len >= 256
-    }
-
     fn insert(&mut self, byte: u8, child: Child) -> bool {
-        let len = self.len;
-        if len >= 256 {
+        if self.full() {
             return false;
         }
-        self.children[byte as usize] = Some(child);
-        self.len = len + 1;
+        self.children[usize::from(byte)] = Some(child);
+        self.len += 1;
         true
     }
 
     fn replace(&mut self, byte: u8, child: Child) {
-        self.children[byte as usize] = Some(child);
+        self.children[usize::from(byte)] = Some(child);
     }
 
     fn remove(&mut self, byte: u8) {
-        let len = self.len;
-        self.children[byte as usize] = None;
-        self.len = len - 1;
+        self.children[usize::from(byte)] = None;
+        self.len -= 1;
     }
+
+    ghost bounded = { λ node. Prim.search rules };
 }

@@ -1,4 +1,6 @@
-ghost use Rattle.std.specs.Prelude.{◌≡◌, ℕ, ◌+◌, ◌-◌, ◌<◌, ◌≤◌, true, false, length, if◌then◌else◌, nat_eq, slice_index};
+ghost use Rattle.std.specs.Prelude.{◌≡◌, ℕ, ◌+◌, ◌-◌, ◌<◌, ◌≤◌, true, false};
+ghost use Rattle.std.proofs.Common.{rules};
+ghost use Rattle.nodes.specs.Placing.{renamed};
 ghost use Rattle.nodes.specs.Kinds.{of_placed};
 
 use crate::branch::Branch;
@@ -10,33 +12,28 @@ const NO_CHILD: Child = Child::Leaf(0);
 impl Branch for Placed {
     ghost view = { of_placed };
 
-    ghost room = { 48 };
+    const ROOM: usize = 48;
+
+    ghost ROOM = { 48 };
 
     fn new() -> Self {
         Placed {
             len: 0,
-            places: [0; 256],
+            places: [None; 256],
             children: [NO_CHILD; 48],
         }
     }
 
     fn find(&self, byte: u8) -> Option<Child> {
-        let place = self.places[byte as usize];
-        if place == 0 {
-            None
-        } else {
-            Some(self.children[place as usize - 1])
-        }
+        let place = self.places[usize::from(byte)]?;
+        Some(self.children[usize::from(place)])
     }
 
     fn from(&self, start: u16) -> Option<Edge> {
-        for i in start as usize..256 {
-            let place = self.places[i];
-            if place != 0 {
-                return Some(Edge {
-                    byte: i as u8,
-                    child: self.children[place as usize - 1],
-                });
+        for i in start..256 {
+            let byte = i as u8;
+            if let Some(child) = self.find(byte) {
+                return Some(Edge { byte, child });
             }
         }
         None
@@ -46,49 +43,39 @@ impl Branch for Placed {
         self.len
     }
 
-    fn full(&self) -> bool {
-        self.len >= 48
-    }
-
     fn insert(&mut self, byte: u8, child: Child) -> bool {
-        let len = self.len;
-        if len >= 48 {
+        if self.full() {
             return false;
         }
-        self.children[len] = child;
-        self.places[byte as usize] = len as u8 + 1;
-        self.len = len + 1;
+        self.children[self.len] = child;
+        self.places[usize::from(byte)] = Some(self.len as u8);
+        self.len += 1;
         true
     }
 
     fn replace(&mut self, byte: u8, child: Child) {
-        let place = self.places[byte as usize];
-        self.children[place as usize - 1] = child;
+        let place = self.places[usize::from(byte)].unwrap();
+        self.children[usize::from(place)] = child;
     }
 
     // the last child moves into the place that becomes free
     fn remove(&mut self, byte: u8) {
-        let place = self.places[byte as usize];
-        let last = self.len;
-        let moved = self.children[last - 1];
-        let mut places = shifted(self.places, last as u8, place);
-        places[byte as usize] = 0;
-        self.children[place as usize - 1] = moved;
-        self.places = places;
-        self.len = last - 1;
+        let at = usize::from(byte);
+        let place = self.places[at].unwrap();
+        let last = self.len - 1;
+        let old = last as u8;
+        self.places[at] = None;
+        self.places = self.places.map(|of| renamed(of, old, place));
+        self.children[usize::from(place)] = self.children[last];
+        self.len = last;
     }
+
+    ghost bounded = { λ node. Prim.search rules };
 }
 
-// each place `old` becomes `new`
-fn shifted(mut places: [u8; 256], old: u8, new: u8) -> [u8; 256]
-    requires { 0 < old }
-    ensures whole { length result ≡ 256 }
-    ensures each { (k : ℕ) → slice_index result k ≡ (if nat_eq (slice_index places k) old then new else slice_index places k) }
+// place `old` becomes `new`, and another stays
+fn renamed(place: Option<u8>, old: u8, new: u8) -> Option<u8>
+    ensures { result ≡ renamed old new place }
 {
-    for i in 0..256 {
-        if places[i] == old {
-            places[i] = new;
-        }
-    }
-    places
+    place.map(|place| if place == old { new } else { place })
 }

@@ -2,28 +2,28 @@ ghost use Rattle.std.specs.Prelude.{◌≡◌, ℕ, ◌+◌, ◌-◌, ◌<◌, �
 ghost use Rattle.nodes.specs.Kept.{kept, Agree};
 
 use crate::prefix::Prefix;
+use inline_bytes::InlineBytes;
 
 impl Prefix {
     pub fn empty() -> Self
         ensures { kept result ≡ [] }
     {
         Prefix {
-            len: 0,
-            bytes: [0; 15],
+            bytes: InlineBytes::empty(),
         }
     }
 
     pub fn len(&self) -> usize
         ensures { (result ≡ length (kept self.now)) × (result ≤ 15) }
     {
-        self.len
+        self.bytes.len()
     }
 
     pub fn at(&self, i: usize) -> u8
         requires { i < length (kept self.now) }
         ensures { result ≡ slice_index (kept self.now) i }
     {
-        self.bytes[i]
+        self.bytes.as_slice()[i]
     }
 
     // `n` bytes of `key` from `start` on
@@ -31,20 +31,9 @@ impl Prefix {
         requires { (start + n ≤ length key.now) × (n ≤ 15) }
         ensures { kept result ≡ take n (drop start key.now) }
     {
-        let mut out = Prefix::empty();
-        for i in 0..n {
-            out.push(key[start + i]);
+        Prefix {
+            bytes: InlineBytes::new(&key[start..start + n]).unwrap(),
         }
-        out
-    }
-
-    fn push(&mut self, byte: u8)
-        requires { length (kept self.old) < 15 }
-        ensures { kept self.new ≡ kept self.old ++ byte ∷ [] }
-    {
-        let len = self.len;
-        self.bytes[len] = byte;
-        self.len = len + 1;
     }
 
     // at how many bytes the prefix and `key` from `start` on agree
@@ -52,13 +41,8 @@ impl Prefix {
         requires { start ≤ length key.now }
         ensures { Agree (kept self.now) (drop start key.now) result }
     {
-        let len = self.len;
-        for i in 0..len {
-            if start + i >= key.len() || self.bytes[i] != key[start + i] {
-                return i;
-            }
-        }
-        len
+        let pairs = self.bytes.as_slice().iter().zip(&key[start..]);
+        pairs.take_while(|(own, other)| own == other).count()
     }
 
     // the first `i` bytes
@@ -66,10 +50,7 @@ impl Prefix {
         requires { i ≤ length (kept self.now) }
         ensures { kept result ≡ take i (kept self.now) }
     {
-        Prefix {
-            len: i,
-            bytes: self.bytes,
-        }
+        Prefix::of(self.bytes.as_slice(), 0, i)
     }
 
     // the bytes from place `i` on
@@ -77,8 +58,7 @@ impl Prefix {
         requires { i ≤ length (kept self.now) }
         ensures { kept result ≡ drop i (kept self.now) }
     {
-        let bytes = self.bytes;
-        Prefix::of(&bytes, i, self.len - i)
+        Prefix::of(self.bytes.as_slice(), i, self.len() - i)
     }
 
     // this prefix, a byte, another prefix
@@ -86,12 +66,9 @@ impl Prefix {
         requires { length (kept self.now) + 1 + length (kept below.now) ≤ 15 }
         ensures { kept result ≡ kept self.now ++ byte ∷ kept below.now }
     {
-        let mut out = *self;
-        out.push(byte);
-        let len = below.len;
-        for i in 0..len {
-            out.push(below.bytes[i]);
-        }
-        out
+        let mut bytes = self.bytes;
+        bytes.push(byte).unwrap();
+        bytes.extend(below.bytes.as_slice()).unwrap();
+        Prefix { bytes }
     }
 }

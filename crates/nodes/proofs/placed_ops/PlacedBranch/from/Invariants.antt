@@ -1,5 +1,6 @@
-use Rattle.std.proofs.Common.{◌≡◌, ℕ, ◌<◌, ◌≤◌, get_or}
+use Rattle.std.proofs.Common.{◌≡◌, ℕ, ◌<◌, ◌≤◌, None}
+use Rattle.nodes.specs.Kinds.{of_placed}
 use Rattle.nodes.proofs.placed_ops.PlacedBranch.from.Given as goal
 
 abbrev pub invariant-loop-i : goal.invariant-loop-i
-invariant-loop-i l = (k : ℕ) → l.start ≤ k → k < l.i → get_or l.self.places k 0 ≡ 0
+invariant-loop-i l = (k : ℕ) → l.start ≤ k → k < l.i → of_placed l.self k ≡ None

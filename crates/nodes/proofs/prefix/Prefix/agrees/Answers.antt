@@ -1,34 +1,19 @@
-use Rattle.std.proofs.Common.{◌≡◌, ℕ, drop, sym, ◌∙◌, subst, arith, length-drop, get_or-drop}
-use Rattle.std.proofs.lemmas.List.{take_more_same}
+use Rattle.std.proofs.Common.{ℕ, List, drop, sym, ap, ◌∙◌, subst, rules, tests}
+use Rattle.std.proofs.lemmas.List.{take_rest}
+use Rattle.std.proofs.lemmas.Iterator.{YieldsList-from_slice, YieldsList-from_zip}
+use Rattle.std.proofs.lemmas.Iterator.Search.{YieldsList-from_take_while}
+use Rattle.std.proofs.lemmas.Iterator.Consumers.{count_from_yields_List}
+use Rattle.std.proofs.lemmas.List.Folds.{length-prefix_len}
+use Rattle.std.specs.List.{zip}
 use Rattle.nodes.specs.Kept.{kept, Agree}
-use Rattle.nodes.proofs.Parted.{agree_at}
+use Rattle.nodes.proofs.Parted.{same, agree_zip}
 use Rattle.nodes.proofs.prefix.Prefix.agrees.Goals as goal
-use Rattle.nodes.proofs.prefix.Prefix.agrees.Goals.{then-start-i-via-then-start-i, then-start-i-via-else-start-i+then-self-i}
-
-pub returns-then-start-i : goal.returns-then-start-i
-returns-then-start-i c =
-    let s = c.args.self.now in
-    let f = s.fits in
-    let w = s.whole in
-    agree_at s.bytes c.args.key.now s.len c.args.start c.loop-i.i (omega arith) (omega arith) c.loop-i.invariant.0 c.loop-i.invariant.1
-    (λ x y q. elim c.then-start-i.branch [ then-start-i-via-then-start-i v ↦ let h = v.if-start-i.true in omega arith | then-start-i-via-else-start-i+then-self-i v ↦ v.if-self-i.true q ])
-
-pub loop-i-preserved : goal.loop-i-preserved
-loop-i-preserved c =
-    let s = c.args.self.now in
-    let f = s.fits in
-    let w = s.whole in
-    let d = length-drop c.args.start c.args.key.now in (
-      omega arith,
-      take_more_same s.bytes (drop c.args.start c.args.key.now) c.loop-i.i 0 (omega arith) (omega arith) c.loop-i.invariant.1
-          (c.if-self-i.false ∙ sym (get_or-drop c.args.start c.args.key.now c.loop-i.i 0)),
-    )
 
 pub returns : goal.returns
 returns c =
-    let s = c.args.self.now in
-    let f = s.fits in
-    let w = s.whole in
-    let e : c.loop-i.i ≡ s.len = omega arith in
-    subst (λ (i : ℕ). Agree (kept s) (drop c.args.start c.args.key.now) i) e
-    (agree_at s.bytes c.args.key.now s.len c.args.start c.loop-i.i (omega arith) (omega arith) c.loop-i.invariant.0 c.loop-i.invariant.1 (λ x y q. omega arith))
+    let xs : List ℕ = kept c.args.self.now in
+    let ys : List ℕ = drop c.args.start c.args.key.now in
+    let pairs = YieldsList-from_zip {s = c.take_while.result.iter} (YieldsList-from_slice xs cc) (YieldsList-from_slice ys (ap (λ z. z.b.rest.now) c.take_while.ensures.source ∙ c.zip-pairs.ensures.second.0 ∙ take_rest c.args.key.now c.args.start)) in
+    let n = count_from_yields_List c.take_while.result c.count.result c.count.ensures.ran
+    (YieldsList-from_take_while _ same pairs c.take_while.ensures.closure c.take_while.ensures.done (λ x b q k. search (rules, tests))) in
+    subst (Agree xs ys) (sym (n ∙ length-prefix_len same (zip xs ys))) (agree_zip xs ys)
