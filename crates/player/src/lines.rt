@@ -2,7 +2,7 @@ ghost use Rattle.std.specs.Iterator.{YieldsFirstRef, item_count};
 ghost use Rattle.player.specs.Histories.{lines_of};
 
 /// The lines of a script: each ends in 0A, which the last may lack.
-#[derive(Clone, Copy)]
+#[derive(Drop)]
 pub(crate) struct Lines<'a> {
     pub(crate) rest: &'a [u8],
 }
