@@ -1,27 +1,27 @@
 -- What line 1 of a script makes of its history.
-use Rattle.std.proofs.Common.{◌≡◌, ℕ, ◌+◌, ◌-◌, ◌<◌, ◌≤◌, Bool, true, false, List, [], ◌++◌, length, take, drop, replicate, None, Ok, Err, Result, sym, refl, ap, ◌∙◌, subst, append-nil, arith}
+use Rattle.std.proofs.Common.{◌≡◌, ℕ, ◌≤◌, Bool, true, false, List, [], ◌∷◌, ◌++◌, length, take, replicate, Some, None, Option, Ok, Err, Bor, Result, sym, refl, ap, ◌∙◌, subst, append-nil, arith}
 use Rattle.std.proofs.lemmas.List.{length-take, take_all}
 use Rattle.std.proofs.lemmas.List.FromFn.{length-range_with_len}
-use Rattle.std.proofs.lemmas.Bool.{lt-ltb, le-ltb}
+use Rattle.std.proofs.lemmas.Bool.{le-ltb}
 use Rattle.std.specs.List.{range_with_len}
+use Rattle.std.specs.Option.{MatchOption, unwrap_or}
+use Rattle.std.specs.Result.{result_and}
 use Rattle.terms.specs.declared.Refusal.{Refusal}
-use Rattle.terms.specs.declared.Refusal.TheVariants.{ScriptLength}
 use Rattle.latches.specs.Rules.{zero_word}
 use Rattle.script.specs.declared.header.Header.{Header}
 use Rattle.script.specs.declared.header.CodingName.{CodingName}
 use Rattle.script.specs.declared.header.CodingName.TheVariants.{Number, Text}
 use Rattle.script.specs.declared.header.LatchName.{LatchName}
 use Rattle.script.specs.declared.header.LatchName.TheVariants.{Optimistic, Coupling}
-use Rattle.script.specs.declared.reply.Reply.TheVariants.{Accepted, Refused}
+use Rattle.script.specs.declared.reply.Done.TheVariants.{Accepted}
 use Rattle.script.specs.Header.{header_of}
 use Rattle.index.specs.declared.seat.Seat.TheVariants.{Closed}
 use Rattle.index.specs.Calls.{State, NewIndex}
 use Rattle.terms.specs.Limits.{seat_count}
 use Rattle.index.specs.Sizes.{leaf_count}
 use Rattle.index.specs.Trees.{no_leaf, no_record}
-use Rattle.player.specs.Histories.{longest_script, lines_of, printed, stopped, PlayedBy, Headed, History, WroteAll, PassedEnd, AddedAll, AddedPart}
+use Rattle.player.specs.Histories.{longest_script, lines_of, first_line, other_lines, printed, stopped, PlayedBy, Headed, History, WroteAll, PassedEnd, AddedAll, AddedPart}
 use Rattle.player.proofs.Buffers.{Filled, Cut, filled_more, cut_more}
-use Rattle.player.proofs.ScriptLines.{LineEnds, first_line_lem, other_lines_lem}
 
 -- an index that was just made
 new_state : State
@@ -46,18 +46,11 @@ unplayed Number Coupling ls = record { start = new_state; new = new_state_new; p
 unplayed Text Optimistic ls = record { start = new_state; new = new_state_new; plays = stopped }
 unplayed Text Coupling ls = record { start = new_state; new = new_state_new; plays = stopped }
 
-pub too_long : (s : List ℕ) (whole : Bool) → longest_script < length s → History s (printed 1 (Refused ScriptLength)) whole
-too_long s whole h = rw (lt-ltb longest_script (length s) h) refl
-
-headed : (s text : List ℕ) (whole : Bool) (n : ℕ) (r : Result Header Refusal) → length s ≤ longest_script → LineEnds s 0 n → r ≡ header_of (take (n - 0) (drop 0 s)) → Headed (lines_of s) text whole r → History s text whole
-headed s text whole n r h e is t = rw (le-ltb longest_script (length s) h) (subst (Headed (lines_of s) text whole) (is ∙ ap header_of (sym (first_line_lem s n e))) t)
-
-pub faulty : (s : List ℕ) (whole : Bool) (n : ℕ) (x : Refusal) → length s ≤ longest_script → LineEnds s 0 n → Err x ≡ header_of (take (n - 0) (drop 0 s)) → History s (printed 1 (Refused x)) whole
-faulty s whole n x h e is = headed s _ whole n (Err x) h e is refl
-
-accepted : (s text rest : List ℕ) (whole : Bool) (n : ℕ) (h : Header) → text ≡ printed 1 Accepted ++ rest → length s ≤ longest_script → LineEnds s 0 n → Ok h ≡ header_of (take (n - 0) (drop 0 s)) → PlayedBy h.coding h.latch (lines_of (drop (n + 1) s)) rest whole → History s text whole
-accepted s text rest whole n h is small e named p =
-    headed s text whole n (Ok h) small e named (record { rest = rest; text_is = is; played = subst (λ ls. PlayedBy h.coding h.latch ls rest whole) (sym (other_lines_lem s n e)) p })
+-- the line that the first call of next gave, empty where it gave none, and the lines that it left
+pub heads : (r : Option (Bor (List ℕ))) (d u : Bor (List ℕ)) (ls ms : List (List ℕ)) → u ≡ unwrap_or r d → d.now ≡ [] → MatchOption r ((ls ≡ []) × (ms ≡ [])) (λ x. ls ≡ x.now ∷ ms)
+    → (u.now ≡ first_line ls) × (ms ≡ other_lines ls)
+heads None d u ls ms is empty e = (ap (λ x. x.now) is ∙ empty ∙ sym (ap first_line e.0), e.1 ∙ sym (ap other_lines e.0))
+heads (Some x) d u ls ms is empty e = (ap (λ x. x.now) is ∙ sym (ap first_line e), sym (ap other_lines e))
 
 pub wrote_all : {script text out out' : List ℕ} {n : ℕ} → History script text true → Filled out 0 text out' n → WroteAll script out' n
 wrote_all {text} h f = record { text = text; history = h; long = omega arith; kept = f.kept; room = f.room }
@@ -67,13 +60,28 @@ passed_end {text} {out} {out'} h f =
     let same : length out' ≡ length out = ap length f.kept ∙ length-take (length out) text ∙ omega arith in
     record { text = text; history = h; past = omega arith; kept = f.kept ∙ ap (λ n. take n text) (sym same) }
 
-module _ (s : List ℕ) (n : ℕ) (h : Header) (small : length s ≤ longest_script) (e : LineEnds s 0 n) (named : Ok h ≡ header_of (take (n - 0) (drop 0 s))) {out : List ℕ} where
-  -- the output line of line 1 passes the end
-  pub only_line : {out₁ : List ℕ} → Cut out 0 (printed 1 Accepted) out₁ → PassedEnd s out₁
-  only_line f = passed_end (accepted s _ [] false n h (sym (append-nil _)) small e named (unplayed h.coding h.latch _)) f
+module _ (s : List ℕ) (small : length s ≤ longest_script) where
+  headed : (text : List ℕ) (whole : Bool) (r : Result Header Refusal) → r ≡ header_of (first_line (lines_of s)) → Headed (lines_of s) text whole r → History s text whole
+  headed text whole r is t = rw (le-ltb longest_script (length s) small) (subst (Headed (lines_of s) text whole) is t)
 
-  pub played_all : {out₁ : List ℕ} {at₁ : ℕ} (out₂ : List ℕ) (at₂ : ℕ) → Filled out 0 (printed 1 Accepted) out₁ at₁ → AddedAll (PlayedBy h.coding h.latch (lines_of (drop (n + 1) s))) out₁ at₁ out₂ at₂ → WroteAll s out₂ at₂
-  played_all out₂ at₂ f a = wrote_all (accepted s _ a.text true n h refl small e named a.plays) (filled_more f (record { long = a.long; kept = a.kept; room = a.room; same = a.same }))
+  pub faulty : (whole : Bool) (x : Refusal) → Err x ≡ header_of (first_line (lines_of s)) → History s (printed 1 (Err x)) whole
+  faulty whole x is = headed _ whole (Err x) is refl
 
-  pub played_part : {out₁ out₂ : List ℕ} {at₁ : ℕ} → Filled out 0 (printed 1 Accepted) out₁ at₁ → AddedPart (PlayedBy h.coding h.latch (lines_of (drop (n + 1) s))) out₁ at₁ out₂ → PassedEnd s out₂
-  played_part f a = passed_end (accepted s _ a.text false n h refl small e named a.plays) (cut_more f (record { past = a.past; kept = a.kept }))
+  pub accepted : (h : Header) (rest : List ℕ) (whole : Bool) → Ok h ≡ header_of (first_line (lines_of s)) → PlayedBy h.coding h.latch (other_lines (lines_of s)) rest whole → History s (printed 1 (Ok Accepted) ++ rest) whole
+  accepted h rest whole named p = headed _ whole (Ok h) named (record { rest = rest; text_is = refl; played = p })
+
+  -- the reply to line 1, and no line played
+  pub line_one : (r : Result Header Refusal) → r ≡ header_of (first_line (lines_of s)) → History s (printed 1 (result_and r (Ok Accepted))) false
+  line_one (Ok h) named = rw (append-nil (printed 1 (Ok Accepted))) at (accepted h [] false named (unplayed h.coding h.latch _))
+  line_one (Err x) is = faulty false x is
+
+  -- the reply to an accepted line 1, and the other lines played behind it
+  module _ (h : Header) (ms : List (List ℕ)) (named : Ok h ≡ header_of (first_line (lines_of s))) (others : ms ≡ other_lines (lines_of s)) where
+    played : (text : List ℕ) (whole : Bool) → PlayedBy h.coding h.latch ms text whole → History s (printed 1 (Ok Accepted) ++ text) whole
+    played text whole p = accepted h text whole named (subst (λ ls. PlayedBy h.coding h.latch ls text whole) others p)
+
+    pub played_all : {out out₁ out₂ : List ℕ} {at₁ at₂ : ℕ} → Filled out 0 (printed 1 (Ok Accepted)) out₁ at₁ → AddedAll (PlayedBy h.coding h.latch ms) out₁ at₁ out₂ at₂ → WroteAll s out₂ at₂
+    played_all f a = wrote_all (played a.text true a.plays) (filled_more f (record { long = a.long; kept = a.kept; room = a.room; same = a.same }))
+
+    pub played_part : {out out₁ out₂ : List ℕ} {at₁ : ℕ} → Filled out 0 (printed 1 (Ok Accepted)) out₁ at₁ → AddedPart (PlayedBy h.coding h.latch ms) out₁ at₁ out₂ → PassedEnd s out₂
+    played_part f a = passed_end (played a.text false a.plays) (cut_more f (record { past = a.past; kept = a.kept }))

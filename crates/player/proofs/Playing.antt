@@ -1,6 +1,6 @@
 -- Lines played one by one, and their replies written behind one another.
 use Rattle.std.proofs.Common.{◌≡◌, ℕ, ◌+◌, ◌≤◌, Bool, true, false, List, [], ◌∷◌, ◌++◌, length, append_assoc, append-nil}
-use Rattle.script.specs.declared.reply.Reply.{Reply}
+use Rattle.script.specs.Replies.{Reply}
 use Rattle.index.specs.Calls.{State, NewIndex}
 use Rattle.player.specs.Histories.{printed, Plays, done, stopped, goes, FromNew, AddedAll, AddedPart}
 use Rattle.player.proofs.Buffers.{Filled, Cut, filled_none, filled_more, cut_more}

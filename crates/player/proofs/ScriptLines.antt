@@ -1,49 +1,35 @@
 -- The lines of a script, cut off one by one.
-use Rattle.std.proofs.Common.{◌≡◌, ℕ, zero, suc, ◌+◌, ◌-◌, ◌<◌, ◌≤◌, List, [], ◌∷◌, length, get_or, take, drop, sym, ap, ◌∙◌, arith}
-use Rattle.std.proofs.lemmas.List.{length-drop, drop-drop, drop_all, get_or-drop, take_all}
+use Rattle.std.proofs.Common.{◌≡◌, ◌≢◌, ℕ, zero, suc, true, false, cond, ◌==◌, ◌<◌, ◌≤◌, List, [], ◌∷◌, length, get_or, take, drop, ap, ◌∙◌, arith}
 use Rattle.std.proofs.lemmas.Bool.{cond-true, cond-false, eq-eqb, ne_eqb}
-use Rattle.player.specs.Histories.{before, lines_of, first_line, other_lines}
+use Rattle.player.specs.Histories.{before, lines_of, other_lines}
 
--- a line that begins at `from` ends at n: no 0A stands before n, and one stands there unless the bytes end
-abbrev pub LineEnds : List ℕ → ℕ → ℕ → Type 0
-LineEnds s from n =
-    record {
-      low : from ≤ n;
-      high : n ≤ length s;
-      inside : (k : ℕ) → from ≤ k → k < n → get_or s k 0 ≡ 0x0A → ⊥;
-      ends : n < length s → get_or s n 0 ≡ 0x0A;
-    }
+-- a line that ends at the first 0A
+pub line_off : (s : List ℕ) (n : ℕ) → n < length s → get_or s n 0 ≡ 0x0A → ((k : ℕ) → k < n → get_or s k 0 ≢ 0x0A) → lines_of s ≡ take n s ∷ lines_of (drop (suc n) s)
+line_off [] n h e others = absurd (omega (arith, h))
+line_off (b ∷ s) zero h e others = cond-true _ _ _ (eq-eqb b 0x0A e)
+line_off (b ∷ s) (suc n) h e others =
+    cond-false _ _ _ (ne_eqb b 0x0A (others 0 (omega arith))) ∙ ap (before b) (line_off s n (omega arith) e (λ k l. others (suc k) (omega arith)))
 
-line_off : (s : List ℕ) (n : ℕ) → 0 < length s → LineEnds s 0 n → lines_of s ≡ take n s ∷ lines_of (drop (suc n) s)
-line_off [] n some e = absurd (omega arith)
-line_off (b ∷ s) zero some e = cond-true _ _ _ (eq-eqb b 0x0A (e.ends some))
-line_off (b ∷ []) (suc n) some e =
-    cond-false _ _ _ (ne_eqb b 0x0A (e.inside 0 (omega arith) (omega arith))) ∙ ap (λ l. (b ∷ l) ∷ []) (sym (take_all n [] (omega arith)))
-line_off (b ∷ c ∷ s) (suc n) some e =
-    let rest : LineEnds (c ∷ s) 0 n = record {
-      low = omega arith;
-      high = omega (arith, e.high);
-      inside = λ k l h. e.inside (suc k) (omega arith) (omega arith);
-      ends = λ h. e.ends (omega arith);
-    } in
-    cond-false _ _ _ (ne_eqb b 0x0A (e.inside 0 (omega arith) (omega arith))) ∙ ap (before b) (line_off (c ∷ s) n (omega arith) rest)
+-- a last line without 0A
+pub last_line : (s : List ℕ) → 0 < length s → ((k : ℕ) → k < length s → get_or s k 0 ≢ 0x0A) → lines_of s ≡ s ∷ []
+last_line [] h others = absurd (omega (arith, h))
+last_line (b ∷ []) h others = cond-false _ _ _ (ne_eqb b 0x0A (others 0 (omega arith)))
+last_line (b ∷ c ∷ s) h others =
+    cond-false _ _ _ (ne_eqb b 0x0A (others 0 (omega arith))) ∙ ap (before b) (last_line (c ∷ s) (omega arith) (λ k l. others (suc k) (omega arith)))
 
-pub next_line : (s : List ℕ) (from n : ℕ) → from < length s → LineEnds s from n → lines_of (drop from s) ≡ take (n - from) (drop from s) ∷ lines_of (drop (n + 1) s)
-next_line s from n more e =
-    let long = length-drop from s in
-    let here : LineEnds (drop from s) 0 (n - from) = record {
-      low = omega arith;
-      high = omega arith;
-      inside = λ k l h. rw get_or-drop (e.inside (from + k) (omega arith) (omega arith));
-      ends = λ h. get_or-drop from s (n - from) 0 ∙ ap (λ k. get_or s k 0) (omega arith) ∙ e.ends (omega arith);
-    } in
-    line_off (drop from s) (n - from) (omega arith) here
-    ∙ ap (λ l. take (n - from) (drop from s) ∷ lines_of l) (drop-drop (suc (n - from)) from s ∙ ap (λ k. drop k s) (omega arith))
+before_few : (b : ℕ) (ls : List (List ℕ)) (n : ℕ) → length ls ≤ n → length (before b ls) ≤ suc n
+before_few b [] n h = omega arith
+before_few b (l ∷ ls) n h = omega (arith, h)
 
-pub first_line_lem : (s : List ℕ) (n : ℕ) → LineEnds s 0 n → first_line (lines_of s) ≡ take (n - 0) (drop 0 s)
-first_line_lem [] n e = sym (take_all (n - 0) [] (omega arith))
-first_line_lem (b ∷ s) n e = ap first_line (next_line (b ∷ s) 0 n (omega arith) e)
+-- no more lines than bytes
+pub few_lines : (s : List ℕ) → length (lines_of s) ≤ length s
+few_lines [] = omega arith
+few_lines (b ∷ s) = let few = few_lines s in
+    elim (b == 0x0A) as (λ t. length (cond t ([] ∷ lines_of s) (before b (lines_of s))) ≤ suc (length s)) [ true ↦ omega arith | false ↦ before_few b (lines_of s) (length s) few ]
 
-pub other_lines_lem : (s : List ℕ) (n : ℕ) → LineEnds s 0 n → other_lines (lines_of s) ≡ lines_of (drop (n + 1) s)
-other_lines_lem [] n e = ap lines_of (sym (drop_all (n + 1) [] (omega arith)))
-other_lines_lem (b ∷ s) n e = ap other_lines (next_line (b ∷ s) 0 n (omega arith) e)
+fewer : (ls : List (List ℕ)) → length (other_lines ls) ≤ length ls
+fewer [] = omega arith
+fewer (l ∷ ls) = omega arith
+
+pub few_others : (s : List ℕ) → length (other_lines (lines_of s)) ≤ length s
+few_others s = omega (arith, fewer (lines_of s), few_lines s)

@@ -11,10 +11,9 @@ use Rattle.script.specs.declared.header.CodingName.{CodingName}
 use Rattle.script.specs.declared.header.CodingName.TheVariants.{Number, Text}
 use Rattle.script.specs.declared.header.LatchName.{LatchName}
 use Rattle.script.specs.declared.header.LatchName.TheVariants.{Optimistic, Coupling}
-use Rattle.script.specs.declared.reply.Reply.{Reply}
-use Rattle.script.specs.declared.reply.Reply.TheVariants.{Accepted, Refused}
+use Rattle.script.specs.declared.reply.Done.TheVariants.{Accepted}
 use Rattle.script.specs.Header.{header_of}
-use Rattle.script.specs.Replies.{line_of}
+use Rattle.script.specs.Replies.{Reply, line_of}
 use Rattle.script.specs.Written.{ended}
 use Rattle.index.specs.Calls.{State, NewIndex}
 use Rattle.player.specs.Keys.{ReadsNumber, ReadsText}
@@ -70,15 +69,15 @@ PlayedBy Text Coupling ls text whole = FromNew (Replied (packed_face 1 512) Acce
 -- behind an accepted line 1
 pub record Behind (h : Header) (ls : List (List ℕ)) (text : List ℕ) (whole : Bool) : Type 0 where
   pub rest : List ℕ
-  pub text_is : text ≡ printed 1 Accepted ++ rest
+  pub text_is : text ≡ printed 1 (Ok Accepted) ++ rest
   pub played : PlayedBy h.coding h.latch ls rest whole
 
 abbrev pub Headed : List (List ℕ) → List ℕ → Bool → Result Header Refusal → Type 0
-Headed ls text whole (Err e) = text ≡ printed 1 (Refused e)
+Headed ls text whole (Err e) = text ≡ printed 1 (Err e)
 Headed ls text whole (Ok h) = Behind h (other_lines ls) text whole
 
 abbrev pub Sized : List ℕ → List ℕ → Bool → Bool → Type 0
-Sized s text whole true = text ≡ printed 1 (Refused ScriptLength)
+Sized s text whole true = text ≡ printed 1 (Err ScriptLength)
 Sized s text whole false = Headed (lines_of s) text whole (header_of (first_line (lines_of s)))
 
 -- The text is the history of the script, or of some first lines of it. A script that is too long, and one whose line 1

@@ -30,15 +30,9 @@ impl ScriptKey for Texts {
     ghost reads = { ReadsText };
 
     fn read_key(word: Word<'_>) -> Option<Text> {
-        let Word::Text(bytes) = word else {
-            return None;
-        };
-        if !script::printable(bytes) {
-            return None;
-        }
-        match Text::new(bytes) {
-            Ok(text) => Some(text),
-            Err(_) => None,
+        match word {
+            Word::Text(bytes) if script::printable(bytes) => Text::new(bytes).ok(),
+            _ => None,
         }
     }
 }

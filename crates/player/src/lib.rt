@@ -4,6 +4,7 @@
 
 mod history;
 mod key;
+mod lines;
 mod reply;
 
 pub use history::history_of;

@@ -1,21 +1,19 @@
--- What the loop over a line keeps, and what a space ends.
-use Rattle.std.proofs.Common.{◌≡◌, ℕ, ◌+◌, ◌<◌, List, [], ◌∷◌, ◌++◌, length, get_or, take, drop, Some, sym, ap, ◌∙◌, append_assoc}
-use Rattle.std.proofs.lemmas.Bool.{cond-true, cond-false, ne_eqb, eq-eqb}
-use Rattle.std.proofs.lemmas.List.{at_drop_more, take_more}
+-- Where the first space ends the first word.
+use Rattle.std.proofs.Common.{◌≡◌, ◌≢◌, ℕ, zero, suc, ◌<◌, List, [], ◌∷◌, length, take, drop, get_or, Some, None, refl, ap, ◌∙◌, sym, arith}
+use Rattle.std.proofs.lemmas.Bool.{cond-true, cond-false, eq-eqb, ne_eqb}
 use Rattle.script.specs.Words.{first_word, after_word}
 
--- a turn that meets no space
-pub word_step : (line : List ℕ) (i : ℕ) → i < length line → (get_or line i 0 ≡ 32 → ⊥) → take i line ++ first_word (drop i line) ≡ take (i + 1) line ++ first_word (drop (i + 1) line)
-word_step line i h ne =
-    ap (λ l. take i line ++ l) (at_drop_more first_word line i 0 h ∙ cond-false _ _ _ (ne_eqb _ _ ne))
-    ∙ sym (ap (λ l. l ++ first_word (drop (i + 1) line)) (take_more line i 0 h) ∙ append_assoc (take i line) (get_or line i 0 ∷ []) _)
+pub at_space : (line : List ℕ) (i : ℕ) → i < length line → get_or line i 0 ≡ 0x20 → ((k : ℕ) → k < i → get_or line k 0 ≢ 0x20) → (take i line ≡ first_word line) × (Some (drop (suc i) line) ≡ after_word line)
+at_space [] i h e others = absurd (omega (arith, h))
+at_space (b ∷ bs) zero h e others = (sym (cond-true _ _ _ (eq-eqb b 0x20 e)), sym (cond-true _ _ _ (eq-eqb b 0x20 e)))
+at_space (b ∷ bs) (suc i) h e others =
+    let more = at_space bs i (omega arith) e (λ k l. others (suc k) (omega arith)) in
+    let other = ne_eqb b 0x20 (others 0 (omega arith)) in
+    (ap (λ w. b ∷ w) more.0 ∙ sym (cond-false _ _ _ other), more.1 ∙ sym (cond-false _ _ _ other))
 
-pub after_step : (line : List ℕ) (i : ℕ) → i < length line → (get_or line i 0 ≡ 32 → ⊥) → after_word (drop i line) ≡ after_word (drop (i + 1) line)
-after_step line i h ne = at_drop_more after_word line i 0 h ∙ cond-false _ _ _ (ne_eqb _ _ ne)
-
--- the turn that meets a space
-pub word_space : (line : List ℕ) (i : ℕ) → i < length line → get_or line i 0 ≡ 32 → first_word (drop i line) ≡ []
-word_space line i h e = at_drop_more first_word line i 0 h ∙ cond-true _ _ _ (eq-eqb _ _ e)
-
-pub after_space : (line : List ℕ) (i : ℕ) → i < length line → get_or line i 0 ≡ 32 → after_word (drop i line) ≡ Some (drop (i + 1) line)
-after_space line i h e = at_drop_more after_word line i 0 h ∙ cond-true _ _ _ (eq-eqb _ _ e)
+pub no_space : (line : List ℕ) → ((k : ℕ) → k < length line → get_or line k 0 ≢ 0x20) → (line ≡ first_word line) × (None ≡ after_word line)
+no_space [] others = (refl, refl)
+no_space (b ∷ bs) others =
+    let more = no_space bs (λ k l. others (suc k) (omega arith)) in
+    let other = ne_eqb b 0x20 (others 0 (omega arith)) in
+    (ap (λ w. b ∷ w) more.0 ∙ sym (cond-false _ _ _ other), more.1 ∙ sym (cond-false _ _ _ other))

@@ -1,7 +1,7 @@
 use crate::word::Word;
 
 /// What a line asks for. Keys are as they stand: what they mean is the coding's business.
-#[derive(Clone, Copy)]
+#[derive(Clone, Copy, Debug, PartialEq, Eq)]
 pub enum Call<'a> {
     Open(u8),
     Close(u8),

@@ -36,19 +36,15 @@ pub(crate) fn number(digits: &[u8], most: u64) -> Option<u64>
 fn below_zero(digits: &[u8]) -> Option<i32>
     ensures { result ≡ as_neg (number_of (2 ^ 31) digits.now) }
 {
-    match number(digits, 1 << 31) {
-        Some(n) if n > 0 => Some(-1 - (n - 1) as i32),
-        _ => None,
-    }
+    number(digits, 1 << 31)
+        .filter(|n| *n > 0)
+        .map(|n| -1 - (n - 1) as i32)
 }
 
 fn from_zero(digits: &[u8]) -> Option<i32>
     ensures { result ≡ as_pos (number_of (2 ^ 31 - 1) digits.now) }
 {
-    match number(digits, (1 << 31) - 1) {
-        Some(n) => Some(n as i32),
-        None => None,
-    }
+    number(digits, (1 << 31) - 1).map(|n| n as i32)
 }
 
 /// The number key that a word writes, within 32 signed bits, `-` only below zero.

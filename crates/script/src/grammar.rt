@@ -1,8 +1,9 @@
 //! The grammar of a line behind the first: one letter, then its words, one space between.
 
 ghost use Rattle.std.specs.Prelude.{◌≡◌};
-ghost use Rattle.std.specs.Option.{option_map};
-ghost use Rattle.script.specs.Grammar.{digit_of, seat_of, seat_alone, open_of, close_of, step_of, find_of, add_of, sweep_of, call_by_letter, call_of};
+ghost use Rattle.std.specs.Option.{option_map, ok_or};
+ghost use Rattle.terms.specs.declared.Refusal.TheVariants.{Grammar};
+ghost use Rattle.script.specs.Grammar.{digit_of, seat_of, seat_alone, find_of, add_of, call_by_letter, call_of};
 ghost use Rattle.script.specs.Means.{seat_meant, call_meant, read};
 
 use crate::call::Call;
@@ -23,129 +24,58 @@ struct Seated<'a> {
 fn digit(word: &[u8]) -> Option<u8>
     ensures { result ≡ digit_of word.now }
 {
-    if word.len() == 1 && word[0].is_ascii_digit() {
-        Some(word[0] - b'0')
-    } else {
-        None
+    match word {
+        [digit @ b'0'..=b'9'] => Some(*digit - b'0'),
+        _ => None,
     }
 }
 
 fn read_seat<'a>(rest: Option<&'a [u8]>) -> Option<Seated<'a>>
     ensures { option_map seat_meant result ≡ seat_of (option_map (λ x. x.now) rest.entry) }
 {
-    let Some(bytes) = rest else {
-        return None;
-    };
-    let split = split_word(bytes);
-    let Some(seat) = digit(split.word) else {
-        return None;
-    };
-    Some(Seated {
-        seat,
-        rest: split.rest,
-    })
+    let (word, rest) = split_word(rest?);
+    let seat = digit(word)?;
+    Some(Seated { seat, rest })
 }
 
 // A seat with nothing behind it.
-fn read_last_seat<'a>(rest: Option<&'a [u8]>) -> Option<u8>
-    ensures { result ≡ seat_alone (seat_of (option_map (λ x. x.now) rest.entry)) }
+fn read_last_seat(rest: Option<&[u8]>) -> Result<u8, Refusal>
+    ensures { result ≡ ok_or (seat_alone (seat_of (option_map (λ x. x.now) rest.entry))) Grammar }
 {
-    let Some(seated) = read_seat(rest) else {
-        return None;
-    };
-    match seated.rest {
-        None => Some(seated.seat),
-        Some(_) => None,
+    match read_seat(rest) {
+        Some(Seated { seat, rest: None }) => Ok(seat),
+        _ => Err(Refusal::Grammar),
     }
-}
-
-fn read_open<'a>(rest: Option<&'a [u8]>) -> Option<Call<'a>>
-    ensures { option_map call_meant result ≡ open_of (option_map (λ x. x.now) rest.entry) }
-{
-    let Some(seat) = read_last_seat(rest) else {
-        return None;
-    };
-    Some(Call::Open(seat))
-}
-
-fn read_close<'a>(rest: Option<&'a [u8]>) -> Option<Call<'a>>
-    ensures { option_map call_meant result ≡ close_of (option_map (λ x. x.now) rest.entry) }
-{
-    let Some(seat) = read_last_seat(rest) else {
-        return None;
-    };
-    Some(Call::Close(seat))
-}
-
-fn read_step<'a>(rest: Option<&'a [u8]>) -> Option<Call<'a>>
-    ensures { option_map call_meant result ≡ step_of (option_map (λ x. x.now) rest.entry) }
-{
-    let Some(seat) = read_last_seat(rest) else {
-        return None;
-    };
-    Some(Call::Step(seat))
 }
 
 fn read_find<'a>(rest: Option<&'a [u8]>) -> Option<Call<'a>>
     ensures { option_map call_meant result ≡ find_of (option_map (λ x. x.now) rest.entry) }
 {
-    let Some(seated) = read_seat(rest) else {
-        return None;
-    };
-    let Some(more) = seated.rest else {
-        return None;
-    };
-    let split = split_word(more);
-    match split.rest {
-        None => Some(Call::Find(seated.seat, read_word(split.word))),
-        Some(_) => None,
-    }
+    let Seated { seat, rest } = read_seat(rest)?;
+    let (word, rest) = split_word(rest?);
+    rest.is_none().then_some(Call::Find(seat, read_word(word)))
 }
 
 fn read_add<'a>(rest: Option<&'a [u8]>) -> Option<Call<'a>>
     ensures { option_map call_meant result ≡ add_of (option_map (λ x. x.now) rest.entry) }
 {
-    let Some(seated) = read_seat(rest) else {
-        return None;
-    };
-    let Some(more) = seated.rest else {
-        return None;
-    };
-    let split = split_word(more);
-    let key = read_word(split.word);
-    let Some(last) = split.rest else {
-        return None;
-    };
-    let Some(value) = digits::number(last, u32::MAX as u64) else {
-        return None;
-    };
-    Some(Call::Add(seated.seat, key, value as u32))
-}
-
-fn read_sweep<'a>(rest: Option<&'a [u8]>) -> Option<Call<'a>>
-    ensures { option_map call_meant result ≡ sweep_of (option_map (λ x. x.now) rest.entry) }
-{
-    match rest {
-        None => Some(Call::Sweep),
-        Some(_) => None,
-    }
+    let Seated { seat, rest } = read_seat(rest)?;
+    let (word, rest) = split_word(rest?);
+    let value = digits::number(rest?, u64::from(u32::MAX))?;
+    Some(Call::Add(seat, read_word(word), value as u32))
 }
 
 fn by_letter<'a>(letter: u8, rest: Option<&'a [u8]>) -> Result<Call<'a>, Refusal>
     ensures { read result ≡ call_by_letter letter (option_map (λ x. x.now) rest.entry) }
 {
-    let call = match letter as char {
-        'O' => read_open(rest),
-        'C' => read_close(rest),
-        'F' => read_find(rest),
-        'A' => read_add(rest),
-        'S' => read_step(rest),
-        'W' => read_sweep(rest),
-        _ => return Err(Refusal::Grammar),
-    };
-    match call {
-        Some(call) => Ok(call),
-        None => Err(Refusal::Grammar),
+    match letter as char {
+        'O' => Ok(Call::Open(read_last_seat(rest)?)),
+        'C' => Ok(Call::Close(read_last_seat(rest)?)),
+        'F' => read_find(rest).ok_or(Refusal::Grammar),
+        'A' => read_add(rest).ok_or(Refusal::Grammar),
+        'S' => Ok(Call::Step(read_last_seat(rest)?)),
+        'W' if rest.is_none() => Ok(Call::Sweep),
+        _ => Err(Refusal::Grammar),
     }
 }
 
@@ -156,9 +86,8 @@ pub fn read_call(line: &[u8]) -> Result<Call<'_>, Refusal>
     if line.len() > LONGEST_LINE {
         return Err(Refusal::Grammar);
     }
-    let split = split_word(line);
-    let [letter] = split.word else {
+    let ([letter], rest) = split_word(line) else {
         return Err(Refusal::Grammar);
     };
-    by_letter(*letter, split.rest)
+    by_letter(*letter, rest)
 }

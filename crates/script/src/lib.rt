@@ -16,6 +16,6 @@ pub use digits::key_number;
 pub use grammar::read_call;
 pub use header::{CodingName, Header, LatchName, read_header};
 pub use line::{Line, reply_line};
-pub use reply::Reply;
+pub use reply::{Done, Reply};
 pub use word::{Word, printable};
 pub use writer::{Place, write_line};

@@ -1,14 +1,15 @@
 use terms::{Outcome, Refusal};
 
-/// What a line of a script is answered with.
-#[derive(Clone, Copy)]
-pub enum Reply {
+/// What an accepted line came to.
+#[derive(Clone, Copy, Debug, PartialEq, Eq)]
+pub enum Done {
     /// Line 1, open, close or begin was accepted.
     Accepted,
-    /// A step was accepted, and came to this.
+    /// A step came to this.
     Stepped(Outcome),
-    /// A sweep was accepted, and made so many slots spare.
+    /// A sweep made so many slots spare.
     Swept(u16),
-    /// The line was refused.
-    Refused(Refusal),
 }
+
+/// What a line of a script is answered with.
+pub type Reply = Result<Done, Refusal>;

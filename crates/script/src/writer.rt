@@ -6,7 +6,7 @@ ghost use Rattle.script.specs.Written.{written, fits, place_after, ended, wrote}
 use terms::Refusal;
 
 /// Where the next line begins.
-#[derive(Clone, Copy)]
+#[derive(Clone, Copy, Debug, PartialEq, Eq)]
 pub struct Place {
     pub at: usize,
 }
@@ -44,12 +44,12 @@ impl Begun<'_> {
         ensures start { self.new.start ≡ self.old.start }
         ensures kept { self.new.kept ≡ self.old.kept }
     {
-        for b in piece {
-            if self.place.at >= out.len() {
-                return Err(Refusal::BufferEnd);
-            }
-            out[self.place.at] = *b;
-            self.place.at += 1;
+        let at = self.place.at;
+        let n = piece.len().min(out.len() - at);
+        out[at..at + n].copy_from_slice(&piece[..n]);
+        self.place.at = at + n;
+        if n < piece.len() {
+            return Err(Refusal::BufferEnd);
         }
         Ok(())
     }

@@ -1,30 +1,19 @@
-use Rattle.std.proofs.Common.{◌≡◌, ◌+◌, ◌-◌, ◌++◌, take, Some, sym, ap, ◌∙◌, append-nil, arith}
-use Rattle.std.proofs.lemmas.List.{at_drop_all, take_rest, take_all}
-use Rattle.script.specs.Words.{first_word, after_word}
-use Rattle.script.proofs.WordSteps.{word_step, after_step, word_space, after_space}
+use Rattle.std.proofs.Common.{◌≡◌, ◌≢◌, ◌+◌, drop, Some, ap, ◌∙◌, add-one, arith, rules}
+use Rattle.std.proofs.lemmas.Iterator.{YieldsList-from_slice, IsFirst-from_position}
+use Rattle.std.proofs.lemmas.List.{take_rest}
+use Rattle.script.proofs.WordSteps.{at_space, no_space}
 use Rattle.script.proofs.word.split_word.Goals as goal
 
-pub returns-then-line-i-eq32 : goal.returns-then-line-i-eq32
-returns-then-line-i-eq32 c =
-    let h = c.loop-i-test.true in
-    let e = c.if-line-i-eq32.true in
-    let same : c.loop-i.i - 0 ≡ c.loop-i.i = omega arith in
-    record {
-      word = sym (c.loop-i.invariant.0 ∙ ap (λ l. take c.loop-i.i c.args.line.now ++ l) (word_space c.args.line.now c.loop-i.i h e) ∙ append-nil _ ∙ ap (λ n. take n c.args.line.now) (sym same));
-      rest = ap Some (take_rest c.args.line.now (c.loop-i.i + 1)) ∙ sym (after_space c.args.line.now c.loop-i.i h e) ∙ c.loop-i.invariant.1;
-    }
+pub returns-in-Some : goal.returns-in-Some
+returns-in-Some c =
+    let line = c.args.line.now in
+    let first = IsFirst-from_position _ _ _ (λ b. b ≡ 0x20) (λ b. b ≢ 0x20) c.in-Some.ensures.ran (YieldsList-from_slice line cc) (λ x q k. search rules) (λ x q k. search rules) in
+    let words = at_space line c.in-Some.end first.0 (first.1 0) (λ k l. first.2 k 0 (omega arith) l) in
+    record { word = words.0; rest = ap Some (take_rest line (c.in-Some.end + 1) ∙ ap (λ n. drop n line) (add-one _)) ∙ words.1 }
 
-pub loop-i-preserved : goal.loop-i-preserved
-loop-i-preserved c =
-    let h = c.loop-i-test.true in (
-      c.loop-i.invariant.0 ∙ word_step c.args.line.now c.loop-i.i h c.if-line-i-eq32.false,
-      sym (after_step c.args.line.now c.loop-i.i h c.if-line-i-eq32.false) ∙ c.loop-i.invariant.1,
-    )
-
-pub returns : goal.returns
-returns c =
-    let h = c.loop-i-test.false in
-    record {
-      word = sym (c.loop-i.invariant.0 ∙ ap (λ l. take c.loop-i.i c.args.line.now ++ l) (at_drop_all first_word c.args.line.now c.loop-i.i h) ∙ append-nil _ ∙ take_all c.loop-i.i c.args.line.now h);
-      rest = sym (at_drop_all after_word c.args.line.now c.loop-i.i h) ∙ c.loop-i.invariant.1;
-    }
+pub returns-in-None : goal.returns-in-None
+returns-in-None c =
+    let line = c.args.line.now in
+    let none = IsFirst-from_position _ _ _ (λ b. b ≡ 0x20) (λ b. b ≢ 0x20) c.in-None.ensures.ran (YieldsList-from_slice line cc) (λ x q k. search rules) (λ x q k. search rules) in
+    let words = no_space line (λ k l. none k 0 (omega arith) l) in
+    record { word = words.0; rest = words.1 }
