@@ -204,26 +204,29 @@ module _ {deep : ℕ} {Key : List ℕ → Type 0} {flux : Ref → Type 0} {S : T
           subst (Answer S G k (G.path x)) (sym a.1) fit
 
       -- a node on the key's way, where the key's place in it is told by the depth
-      record OnKey (h : H) : Type 0 where
-        is_node : IsNode (V.at h)
-        linked : Linked G (V.at h)
-        begins : G.path (V.at h) ≼ k
-        depth : V.depth h ≡ length (G.path (V.at h))
-        whole : G.path (V.at h) ++ prefix S (V.at h) ≡ G.full (V.at h)
+      record KeyWay (x : Ref) (d : ℕ) : Type 0 where
+        is_node : IsNode x
+        linked : Linked G x
+        begins : G.path x ≼ k
+        depth : d ≡ length (G.path x)
+        whole : G.path x ++ prefix S x ≡ G.full x
+
+      abbrev OnKey : H → Type 0
+      OnKey h = KeyWay (V.at h) (V.depth h)
 
       -- an equal prefix: the key goes on in x with the byte b
-      at_byte : (h : H) (b : ℕ) → OnKey h → against (prefix S (V.at h)) (drop (V.depth h) k) ≡ same b → G.full (V.at h) ++ b ∷ [] ≼ k
-      at_byte h b o a =
-          let p : G.path (V.at h) ++ (prefix S (V.at h) ++ b ∷ []) ≼ k = drop_begins (G.path (V.at h)) (prefix S (V.at h) ++ b ∷ []) k o.begins
-          (same_begins (prefix S (V.at h)) (drop (length (G.path (V.at h))) k) b (subst (λ (d : ℕ). against (prefix S (V.at h)) (drop d k) ≡ same b) o.depth a)) in
-          subst (λ (u : List ℕ). u ++ b ∷ [] ≼ k) o.whole (subst (λ (u : List ℕ). u ≼ k) (sym (mathlib.Core.List.append_assoc (G.path (V.at h)) (prefix S (V.at h)) (b ∷ []))) p)
+      at_byte : (x : Ref) (d b : ℕ) → KeyWay x d → against (prefix S x) (drop d k) ≡ same b → G.full x ++ b ∷ [] ≼ k
+      at_byte x d b o a =
+          let p : G.path x ++ (prefix S x ++ b ∷ []) ≼ k = drop_begins (G.path x) (prefix S x ++ b ∷ []) k o.begins
+          (same_begins (prefix S x) (drop (length (G.path x)) k) b (subst (λ (n : ℕ). against (prefix S x) (drop n k) ≡ same b) o.depth a)) in
+          subst (λ (u : List ℕ). u ++ b ∷ [] ≼ k) o.whole (subst (λ (u : List ℕ). u ≼ k) (sym (mathlib.Core.List.append_assoc (G.path x) (prefix S x) (b ∷ []))) p)
 
       -- a held key under x begins with the prefix behind the path
-      in_prefix : (h : H) (j : ℕ) → OnKey h → Linked G (leaf j) → G.path (V.at h) ≼ (S.entries j).key → prefix S (V.at h) ≼ drop (length (G.path (V.at h))) (S.entries j).key
-      in_prefix h j o lj u =
-          let w = way (V.at h) j o.is_node o.linked lj u in
-          begins_drop (G.path (V.at h)) (prefix S (V.at h)) (S.entries j).key
-          (subst (λ (v : List ℕ). v ≼ (S.entries j).key) (sym o.whole) (≼_trans (G.full (V.at h)) (G.full (V.at h) ++ w.byte ∷ []) (S.entries j).key (≼_app (G.full (V.at h)) (w.byte ∷ [])) w.goes))
+      in_prefix : (x : Ref) (d j : ℕ) → KeyWay x d → Linked G (leaf j) → G.path x ≼ (S.entries j).key → prefix S x ≼ drop (length (G.path x)) (S.entries j).key
+      in_prefix x d j o lj u =
+          let w = way x j o.is_node o.linked lj u in
+          begins_drop (G.path x) (prefix S x) (S.entries j).key
+          (subst (λ (v : List ℕ). v ≼ (S.entries j).key) (sym o.whole) (≼_trans (G.full x) (G.full x ++ w.byte ∷ []) (S.entries j).key (≼_app (G.full x) (w.byte ∷ [])) w.goes))
 
       unfit : (x : Ref) (b : ℕ) (o : Option Ref) → IsNode x → Linked G x → child S x b ≡ o → Unfit S k o → Answer S G k (G.full x ++ b ∷ []) None
       unfit x b None n l e q j lj h =
@@ -236,86 +239,89 @@ module _ {deep : ℕ} {Key : List ℕ → Type 0} {flux : Ref → Type 0} {S : T
       unfit x b (Some (node c i)) n l e q j lj h = absurd q
 
       -- the newest look at the last node of the key's way
-      ends : (h : H) (s : Sight) (hs : List H) (r : Option ℕ) → OnKey h → KeyView S k (V.at h) (V.depth h) s → Led V deep S Ok s hs r → AllByRecursion Ok hs → Answer S G k (G.path (V.at h)) r
-      ends h s hs r o (KeyView.above c y a p q) d os =
-          let v = smallest_some S (V.at h) c y p in
-          let m = led y _ s hs r (t.kid (V.at h) c y o.linked v.0).0 q d os in
-          subst (Answer S G k (G.path (V.at h))) (sym m.1) (over (V.at h) m.0
-          (λ j lj u. first_behind (G.path (V.at h)) k (S.entries j).key o.begins u
-          (larger_first (prefix S (V.at h)) (drop (length (G.path (V.at h))) k) (drop (length (G.path (V.at h))) (S.entries j).key)
-          (subst (λ (n : ℕ). against (prefix S (V.at h)) (drop n k) ≡ larger) o.depth a) (in_prefix h j o lj u)))
-          (min (V.at h) y c m.0 o.is_node o.linked p m.2))
-      ends h s hs r o (KeyView.lower a e) d os =
-          subst (Answer S G k (G.path (V.at h))) (sym (led_back s hs r e d)) (λ j lj u.
-          first_behind (G.path (V.at h)) (S.entries j).key k u o.begins
-          (smaller_first (prefix S (V.at h)) (drop (length (G.path (V.at h))) k) (drop (length (G.path (V.at h))) (S.entries j).key)
-          (subst (λ (n : ℕ). against (prefix S (V.at h)) (drop n k) ≡ smaller) o.depth a) (in_prefix h j o lj u)))
-      ends h s hs r o (KeyView.beside b a q p) d os =
-          beyond (V.at h) b _ s hs r (past S (V.at h) b) o.is_node o.linked (at_byte h b o a) (unfit (V.at h) b (child S (V.at h) b) o.is_node o.linked refl q) refl p d os
-      ends h s hs r o (KeyView.at b i a e f q) d os =
-          let g = t.kid (V.at h) b (leaf i) o.linked e in
-          let m = led (leaf i) 0 s hs r g.0 (sym q) d os in
+      ends : (x : Ref) (d : ℕ) (s : Sight) (hs : List H) (r : Option ℕ) → KeyWay x d → KeyView S k x d s → Led V deep S Ok s hs r → AllByRecursion Ok hs → Answer S G k (G.path x) r
+      ends x d s hs r o (KeyView.above c y a p q) w os =
+          let v = smallest_some S x c y p in
+          let m = led y _ s hs r (t.kid x c y o.linked v.0).0 q w os in
+          subst (Answer S G k (G.path x)) (sym m.1) (over x m.0
+          (λ j lj u. first_behind (G.path x) k (S.entries j).key o.begins u
+          (larger_first (prefix S x) (drop (length (G.path x)) k) (drop (length (G.path x)) (S.entries j).key)
+          (subst (λ (n : ℕ). against (prefix S x) (drop n k) ≡ larger) o.depth a) (in_prefix x d j o lj u)))
+          (min x y c m.0 o.is_node o.linked p m.2))
+      ends x d s hs r o (KeyView.lower a e) w os =
+          subst (Answer S G k (G.path x)) (sym (led_back s hs r e w)) (λ j lj u.
+          first_behind (G.path x) (S.entries j).key k u o.begins
+          (smaller_first (prefix S x) (drop (length (G.path x)) k) (drop (length (G.path x)) (S.entries j).key)
+          (subst (λ (n : ℕ). against (prefix S x) (drop n k) ≡ smaller) o.depth a) (in_prefix x d j o lj u)))
+      ends x d s hs r o (KeyView.beside b a q p) w os =
+          beyond x b _ s hs r (past S x b) o.is_node o.linked (at_byte x d b o a) (unfit x b (child S x b) o.is_node o.linked refl q) refl p w os
+      ends x d s hs r o (KeyView.at b i a e f q) w os =
+          let g = t.kid x b (leaf i) o.linked e in
+          let m = led (leaf i) 0 s hs r g.0 (sym q) w os in
           let z : m.0 ≡ i = alone i m.0 g.0 m.2.linked m.2.under in
-          let fit : Fit S G k (G.full (V.at h) ++ b ∷ []) m.0 = record {
+          let fit : Fit S G k (G.full x ++ b ∷ []) m.0 = record {
             linked = m.2.linked;
             under = subst (λ (v : List ℕ). v ≼ (S.entries m.0).key) g.1 m.2.under;
             from = subst (λ (n : ℕ). First (S.entries n).key k → ⊥) (sym z) f;
-            least = λ j lj u nf w. m.2.least j lj (subst (λ (v : List ℕ). v ≼ (S.entries j).key) (sym g.1) u) w;
+            least = λ j lj u nf f. m.2.least j lj (subst (λ (v : List ℕ). v ≼ (S.entries j).key) (sym g.1) u) f;
           } in
-          subst (Answer S G k (G.path (V.at h))) (sym m.1) (upto (V.at h) b m.0 o.is_node o.linked (at_byte h b o a) fit)
-      ends h s hs r o (KeyView.on b y a e n q) d os = absurd (never_onward s y _ hs r q d)
+          subst (Answer S G k (G.path x)) (sym m.1) (upto x b m.0 o.is_node o.linked (at_byte x d b o a) fit)
+      ends x d s hs r o (KeyView.on b y a e n q) w os = absurd (never_onward s y _ hs r q w)
 
       -- the next node on the key's way
-      record Onward (h : H) (y : Ref) (e : ℕ) : Type 0 where
+      record Onward (x y : Ref) (e : ℕ) : Type 0 where
         byte : ℕ
-        is : child S (V.at h) byte ≡ Some y
-        goes : G.full (V.at h) ++ byte ∷ [] ≼ k
-        path : G.path y ≡ G.full (V.at h) ++ byte ∷ []
+        is : child S x byte ≡ Some y
+        goes : G.full x ++ byte ∷ [] ≼ k
+        path : G.path y ≡ G.full x ++ byte ∷ []
         is_node : IsNode y
         linked : Linked G y
-        depth : e ≡ suc (length (G.full (V.at h)))
+        depth : e ≡ suc (length (G.full x))
 
-      onwards : (h : H) (y : Ref) (e : ℕ) → OnKey h → KeyView S k (V.at h) (V.depth h) (onward y e) → Onward h y e
-      onwards h y e o (KeyView.above c z a p q) = absurd (picks_not z _ y e q)
-      onwards h y e o (KeyView.lower a q) = let z : ◌≡◌ {A = ℕ} 0 1 = cc q in absurd (omega arith)
-      onwards h y e o (KeyView.beside b a q p) = absurd (picked_not (past S (V.at h) b) _ y e p)
-      onwards h y e o (KeyView.at b i a r f q) = let z : ◌≡◌ {A = ℕ} 0 1 = cc q in absurd (omega arith)
-      onwards h y e o (KeyView.on b z a r n q) =
+      onward_view : (x : Ref) (d : ℕ) (y : Ref) (e : ℕ) → KeyWay x d → KeyView S k x d (onward y e) → Onward x y e
+      onward_view x d y e o (KeyView.above c z a p q) = absurd (picks_not z _ y e q)
+      onward_view x d y e o (KeyView.lower a q) = let z : ◌≡◌ {A = ℕ} 0 1 = cc q in absurd (omega arith)
+      onward_view x d y e o (KeyView.beside b a q p) = absurd (picked_not (past S x b) _ y e p)
+      onward_view x d y e o (KeyView.at b i a r f q) = let z : ◌≡◌ {A = ℕ} 0 1 = cc q in absurd (omega arith)
+      onward_view x d y e o (KeyView.on b z a r n q) =
           let i : z ≡ y = cc q in
-          let j : e ≡ suc (V.depth h + length (prefix S (V.at h))) = cc q in
-          let f : child S (V.at h) b ≡ Some y = r ∙ ap Some i in
-          let c = t.kid (V.at h) b y o.linked f in
+          let j : e ≡ suc (d + length (prefix S x)) = cc q in
+          let f : child S x b ≡ Some y = r ∙ ap Some i in
+          let c = t.kid x b y o.linked f in
           record {
             byte = b;
             is = f;
-            goes = at_byte h b o a;
+            goes = at_byte x d b o a;
             path = c.1;
             is_node = subst IsNode i n;
             linked = c.0;
-            depth = omega (arith, j, o.depth, length-append (G.path (V.at h)) (prefix S (V.at h)), ap length o.whole);
+            depth = omega (arith, j, o.depth, length-append (G.path x) (prefix S x), ap length o.whole);
           }
 
-      on_key : (h : H) (y : Ref) (e : ℕ) (w : Onward h y e) → G.path y ≼ k
-      on_key h y e w = subst (λ (v : List ℕ). v ≼ k) (sym w.path) w.goes
+      onward_fresh : (y : Ref) (d : ℕ) → onward y d ≡ stale → ⊥
+      onward_fresh y d e = let z : ◌≡◌ {A = ℕ} 0 1 = cc e in omega arith
 
-      at_depth : (h : H) (y : Ref) (e : ℕ) (w : Onward h y e) → e ≡ length (G.path y)
-      at_depth h y e w = omega (arith, w.depth, ap length w.path, snoc_len (G.full (V.at h)) w.byte)
+      onwards : {x y : Ref} {d e : ℕ} → KeyWay x d → key_sight deep S k x d ≡ onward y e → Onward x y e
+      onwards {x = x} {y = y} {d = d} {e = e} o q = onward_view x d y e o (key_view S k x d (onward y e) deep q (onward_fresh y e))
 
-      byte_taken : (h g : H) (w : Onward h (V.at g) (V.depth g)) → taken V k g ≡ w.byte
-      byte_taken h g w =
-          let e : V.depth g - 1 ≡ length (G.full (V.at h)) = omega (arith, w.depth) in
-          ap (λ (n : ℕ). get_or k n 0) e ∙ byte_at (G.full (V.at h)) k w.byte w.goes
+      on_key : {x y : Ref} {e : ℕ} → Onward x y e → G.path y ≼ k
+      on_key w = subst (λ (v : List ℕ). v ≼ k) (sym w.path) w.goes
 
-      lifted : (h : H) (y : Ref) (e n : ℕ) (r : Option ℕ) → OnKey h → Onward h y e → Past (suc n) r → Answer S G k (G.path y) r → Answer S G k (G.path (V.at h)) r
-      lifted h y e n None o w p a = absurd (omega (arith, p))
-      lifted h y e n (Some i) o w p a = upto (V.at h) w.byte i o.is_node o.linked w.goes (subst (λ (v : List ℕ). Fit S G k v i) w.path a)
+      at_depth : {x y : Ref} {e : ℕ} → Onward x y e → e ≡ length (G.path y)
+      at_depth {x = x} w = omega (arith, w.depth, ap length w.path, snoc_len (G.full x) w.byte)
+
+      byte_taken : {x : Ref} (g : H) (w : Onward x (V.at g) (V.depth g)) → taken V k g ≡ w.byte
+      byte_taken {x = x} g w =
+          let e : V.depth g - 1 ≡ length (G.full x) = omega (arith, w.depth) in
+          ap (λ (n : ℕ). get_or k n 0) e ∙ byte_at (G.full x) k w.byte w.goes
+
+      lifted : {x y : Ref} {d e : ℕ} (n : ℕ) (r : Option ℕ) → KeyWay x d → Onward x y e → Past (suc n) r → Answer S G k (G.path y) r → Answer S G k (G.path x) r
+      lifted n None o w p a = absurd (omega (arith, p))
+      lifted {x = x} n (Some i) o w p a = upto x w.byte i o.is_node o.linked w.goes (subst (λ (v : List ℕ). Fit S G k v i) w.path a)
 
       past_on : (n : ℕ) (r : Option ℕ) → Past (suc n) r → Past n r
       past_on n None p = absurd (omega (arith, p))
       past_on n (Some i) p = tt
-
-      onward_fresh : (y : Ref) (d : ℕ) → onward y d ≡ stale → ⊥
-      onward_fresh y d e = let z : ◌≡◌ {A = ℕ} 0 1 = cc e in omega arith
 
       module _ (still : (g : H) → Ok g → flux (V.at g) → ⊥) where
         stands : (h : H) → IsNode (V.at h) → Linked G (V.at h) → G.path (V.at h) ≼ k → V.depth h ≡ length (G.path (V.at h)) → Ok h → OnKey h
@@ -327,31 +333,37 @@ module _ {deep : ℕ} {Key : List ℕ → Type 0} {flux : Ref → Type 0} {S : T
           whole = ⊎_elim (λ e. e) (λ x. absurd (still h o x)) (t.split (V.at h) n l).1;
         }
 
+        stands_on : {x : Ref} (g : H) → Onward x (V.at g) (V.depth g) → Ok g → OnKey g
+        stands_on g w o = stands g w.is_node w.linked (on_key w) (at_depth w) o
+
         -- from the newest node on the key's way to the first: the answer among the keys under each
         answer : (h : H) (hs : List H) (n : ℕ) (s : Sight) (ds : List H) (r : Option ℕ) → OnKey h
             → Saw V deep S k Ok (h ∷ hs) n s → Led V deep S Ok s ds r → Past n r → Ok h → AllByRecursion Ok hs → AllByRecursion Ok ds → Answer S G k (G.path (V.at h)) r
-        answer h [] zero s ds r ok saw d p o os od = ends h s ds r ok (key_view S k (V.at h) (V.depth h) s deep (saw o) (never_stale s ds r d)) d od
+        answer h [] zero s ds r ok saw d p o os od = ends (V.at h) (V.depth h) s ds r ok (key_view S k (V.at h) (V.depth h) s deep (saw o) (never_stale s ds r d)) d od
         answer h [] (suc n) s ds r ok saw d p o os od = absurd saw
         answer h (g ∷ hs) zero s ds r ok saw d p o os od =
-            let w = onwards h (V.at g) (V.depth g) ok (key_view S k (V.at h) (V.depth h) _ deep (saw.0 o) (onward_fresh (V.at g) (V.depth g))) in
-            let low : Answer S G k (G.path (V.at g)) None = answer g hs zero back [] None (stands g w.is_node w.linked (on_key h (V.at g) (V.depth g) w) (at_depth h (V.at g) (V.depth g) w) os.0) saw.1 refl refl os.0 os.1 tt in
-            let v = back_view deep S w.byte (V.at h) (V.depth h) s (subst (λ (b : ℕ). back_sight deep S b (V.at h) (V.depth h) ≡ s) (byte_taken h g w) (saw.2 o)) (never_stale s ds r d) in
+            let w = onwards ok (saw.0 o) in
+            let low : Answer S G k (G.path (V.at g)) None = answer g hs zero back [] None (stands_on g w os.0) saw.1 refl refl os.0 os.1 tt in
+            let v = back_view deep S w.byte (V.at h) (V.depth h) s (subst (λ (b : ℕ). back_sight deep S b (V.at h) (V.depth h) ≡ s) (byte_taken g w) (saw.2 o)) (never_stale s ds r d) in
             beyond (V.at h) w.byte _ s ds r (past S (V.at h) w.byte) ok.is_node ok.linked w.goes (subst (λ (u : List ℕ). Answer S G k u None) w.path low) refl v d od
         answer h (g ∷ hs) (suc n) s ds r ok saw d p o os od =
-            let w = onwards h (V.at g) (V.depth g) ok (key_view S k (V.at h) (V.depth h) _ deep (saw.0 o) (onward_fresh (V.at g) (V.depth g))) in
-            lifted h (V.at g) (V.depth g) n r ok w p (answer g hs n s ds r (stands g w.is_node w.linked (on_key h (V.at g) (V.depth g) w) (at_depth h (V.at g) (V.depth g) w) os.0) saw.1 d (past_on n r p) os.0 os.1 od)
+            let w = onwards ok (saw.0 o) in
+            lifted n r ok w p (answer g hs n s ds r (stands_on g w os.0) saw.1 d (past_on n r p) os.0 os.1 od)
 
         root_on : (h : H) → V.at h ≡ root → V.depth h ≡ 0 → Ok h → OnKey h
         root_on h e d o = stands h (subst IsNode (sym e) tt) (subst (Linked G) (sym e) t.root_linked)
             (subst (λ (u : List ℕ). u ≼ k) (sym (ap G.path e ∙ t.root_path)) tt) (omega (arith, d, ap length (ap G.path e ∙ t.root_path))) o
 
         -- a node on the way down
-        record OnDown (h : H) : Type 0 where
-          is_node : IsNode (V.at h)
-          linked : Linked G (V.at h)
-          depth : V.depth h ≡ length (G.path (V.at h))
-          whole : G.path (V.at h) ++ prefix S (V.at h) ≡ G.full (V.at h)
-          inner : V.at h ≡ root → ⊥
+        record DownWay (x : Ref) (d : ℕ) : Type 0 where
+          is_node : IsNode x
+          linked : Linked G x
+          depth : d ≡ length (G.path x)
+          whole : G.path x ++ prefix S x ≡ G.full x
+          inner : x ≡ root → ⊥
+
+        abbrev OnDown : H → Type 0
+        OnDown h = DownWay (V.at h) (V.depth h)
 
         -- a look within the bound of depth
         room : (x : Ref) (d : ℕ) → IsNode x → Linked G x → d ≡ length (G.path x) → G.path x ++ prefix S x ≡ G.full x → leb deep (d + length (prefix S x)) ≡ false
@@ -359,69 +371,67 @@ module _ {deep : ℕ} {Key : List ℕ → Type 0} {flux : Ref → Type 0} {S : T
             let q : d + length (prefix S x) ≡ length (G.full x) = omega (arith, e, length-append (G.path x) (prefix S x), ap length w) in
             lt-leb deep (d + length (prefix S x)) (omega (arith, q, (t.short x n l).0))
 
-        fresh_key : (h : H) → Key k → OnKey h → key_sight deep S k (V.at h) (V.depth h) ≡ stale → ⊥
+        fresh_key : (x : Ref) (d : ℕ) → Key k → KeyWay x d → key_sight deep S k x d ≡ stale → ⊥
         unfolding key_sight
-        fresh_key h key o e =
-            go (against (prefix S (V.at h)) (drop (V.depth h) k)) refl
-            (subst (λ (b : Bool). cond b stale (keyed S k (V.at h) (suc (V.depth h + length (prefix S (V.at h)))) (against (prefix S (V.at h)) (drop (V.depth h) k))) ≡ stale)
-            (room (V.at h) (V.depth h) o.is_node o.linked o.depth o.whole) e)
+        fresh_key x d key o e =
+            go (against (prefix S x) (drop d k)) refl
+            (subst (λ (b : Bool). cond b stale (keyed S k x (suc (d + length (prefix S x))) (against (prefix S x) (drop d k))) ≡ stale)
+            (room x d o.is_node o.linked o.depth o.whole) e)
           where
-            go : (c : Compared) → against (prefix S (V.at h)) (drop (V.depth h) k) ≡ c → keyed S k (V.at h) (suc (V.depth h + length (prefix S (V.at h)))) c ≡ stale → ⊥
-            go larger a q = smallest_fresh (smallest S (V.at h)) _ (has_smallest S (V.at h) (t.wide (V.at h) o.is_node
-                (λ r. nil_not_larger (drop (V.depth h) k) (subst (λ (p : List ℕ). against p (drop (V.depth h) k) ≡ larger) (ap (prefix S) r ∙ t.root_prefix) a)) (inl o.linked))) q
+            go : (c : Compared) → against (prefix S x) (drop d k) ≡ c → keyed S k x (suc (d + length (prefix S x))) c ≡ stale → ⊥
+            go larger a q = smallest_fresh (smallest S x) _ (has_smallest S x (t.wide x o.is_node
+                (λ r. nil_not_larger (drop d k) (subst (λ (p : List ℕ). against p (drop d k) ≡ larger) (ap (prefix S) r ∙ t.root_prefix) a)) (inl o.linked))) q
             go smaller a q = let z : ◌≡◌ {A = ℕ} 0 1 = cc q in omega arith
-            go ended a q = (t.short (V.at h) o.is_node o.linked).1 k key (subst (λ (u : List ℕ). k ≼ u) o.whole
-                (begins_behind (G.path (V.at h)) k (prefix S (V.at h)) o.begins
-                (ended_begins (prefix S (V.at h)) (drop (length (G.path (V.at h))) k) (subst (λ (d : ℕ). against (prefix S (V.at h)) (drop d k) ≡ ended) o.depth a))))
-            go (same b) a q = under_fresh S k (V.at h) _ b (child S (V.at h) b) q
+            go ended a q = (t.short x o.is_node o.linked).1 k key (subst (λ (u : List ℕ). k ≼ u) o.whole
+                (begins_behind (G.path x) k (prefix S x) o.begins
+                (ended_begins (prefix S x) (drop (length (G.path x)) k) (subst (λ (n : ℕ). against (prefix S x) (drop n k) ≡ ended) o.depth a))))
+            go (same b) a q = under_fresh S k x _ b (child S x b) q
 
-        fresh_back : (h : H) (b : ℕ) → OnKey h → back_sight deep S b (V.at h) (V.depth h) ≡ stale → ⊥
+        fresh_back : (x : Ref) (d b : ℕ) → KeyWay x d → back_sight deep S b x d ≡ stale → ⊥
         unfolding back_sight
-        fresh_back h b o e =
-            back_fresh (past S (V.at h) b) _ (subst (λ (c : Bool). cond c stale (picked (past S (V.at h) b) (suc (V.depth h + length (prefix S (V.at h)))) back) ≡ stale)
-            (room (V.at h) (V.depth h) o.is_node o.linked o.depth o.whole) e)
+        fresh_back x d b o e =
+            back_fresh (past S x b) _ (subst (λ (c : Bool). cond c stale (picked (past S x b) (suc (d + length (prefix S x))) back) ≡ stale)
+            (room x d o.is_node o.linked o.depth o.whole) e)
 
-        fresh_down : (h : H) → OnDown h → down_sight deep S (V.at h) (V.depth h) ≡ stale → ⊥
+        fresh_down : (x : Ref) (d : ℕ) → DownWay x d → down_sight deep S x d ≡ stale → ⊥
         unfolding down_sight
-        fresh_down h o e =
-            smallest_fresh (smallest S (V.at h)) _ (has_smallest S (V.at h) (t.wide (V.at h) o.is_node o.inner (inl o.linked)))
-            (subst (λ (c : Bool). cond c stale (picked (smallest S (V.at h)) (suc (V.depth h + length (prefix S (V.at h)))) stale) ≡ stale)
-            (room (V.at h) (V.depth h) o.is_node o.linked o.depth o.whole) e)
+        fresh_down x d o e =
+            smallest_fresh (smallest S x) _ (has_smallest S x (t.wide x o.is_node o.inner (inl o.linked)))
+            (subst (λ (c : Bool). cond c stale (picked (smallest S x) (suc (d + length (prefix S x))) stale) ≡ stale)
+            (room x d o.is_node o.linked o.depth o.whole) e)
 
         -- a child picked, on the way down
-        stands_down : (h g : H) (c : ℕ) (y : Ref) → Linked G (V.at h) → V.depth h ≡ length (G.path (V.at h)) → G.path (V.at h) ++ prefix S (V.at h) ≡ G.full (V.at h)
-            → child S (V.at h) c ≡ Some y → picks y (suc (V.depth h + length (prefix S (V.at h)))) ≡ aside (V.at g) (V.depth g) → Ok g → OnDown g
-        stands_down h g c y l d w e q o =
+        stands_down : (x : Ref) (d c : ℕ) (y : Ref) (g : H) → Linked G x → d ≡ length (G.path x) → G.path x ++ prefix S x ≡ G.full x
+            → child S x c ≡ Some y → picks y (suc (d + length (prefix S x))) ≡ aside (V.at g) (V.depth g) → Ok g → OnDown g
+        stands_down x d c y g l m w e q o =
             let i = picks_aside y _ (V.at g) (V.depth g) q in
             let j = picks_depth y _ (V.at g) (V.depth g) q in
-            let m = t.kid (V.at h) c (V.at g) l (e ∙ ap Some i.0) in
-            let n : length (G.path (V.at g)) ≡ suc (length (G.full (V.at h))) = ap length m.1 ∙ snoc_len (G.full (V.at h)) c in
+            let z = t.kid x c (V.at g) l (e ∙ ap Some i.0) in
+            let n : length (G.path (V.at g)) ≡ suc (length (G.full x)) = ap length z.1 ∙ snoc_len (G.full x) c in
             record {
               is_node = i.1;
-              linked = m.0;
-              depth = omega (arith, j, n, d, length-append (G.path (V.at h)) (prefix S (V.at h)), ap length w);
-              whole = ⊎_elim (λ x. x) (λ x. absurd (still g o x)) (t.split (V.at g) i.1 m.0).1;
+              linked = z.0;
+              depth = omega (arith, j, n, m, length-append (G.path x) (prefix S x), ap length w);
+              whole = ⊎_elim (λ x. x) (λ x. absurd (still g o x)) (t.split (V.at g) i.1 z.0).1;
               inner = λ r. omega (arith, n, ap length (ap G.path r ∙ t.root_path));
             }
 
-        past_down : (h g : H) (b : ℕ) (o : Option (ℕ × Ref)) → OnKey h → past S (V.at h) b ≡ o → picked o (suc (V.depth h + length (prefix S (V.at h)))) back ≡ aside (V.at g) (V.depth g) → Ok g → OnDown g
-        past_down h g b None k' e q o = let z : ◌≡◌ {A = ℕ} 0 1 = cc q in absurd (omega arith)
-        past_down h g b (Some (c, y)) k' e q o = stands_down h g c y k'.linked k'.depth k'.whole (past_some S (V.at h) b c y e).0 q o
+        past_down : (x : Ref) (d b : ℕ) (o : Option (ℕ × Ref)) (g : H) → KeyWay x d → past S x b ≡ o → picked o (suc (d + length (prefix S x))) back ≡ aside (V.at g) (V.depth g) → Ok g → OnDown g
+        past_down x d b None g k' e q o = let z : ◌≡◌ {A = ℕ} 0 1 = cc q in absurd (omega arith)
+        past_down x d b (Some (c, y)) g k' e q o = stands_down x d c y g k'.linked k'.depth k'.whole (past_some S x b c y e).0 q o
 
-        key_down : (h g : H) → OnKey h → KeyView S k (V.at h) (V.depth h) (aside (V.at g) (V.depth g)) → Ok g → OnDown g
-        key_down h g k' (KeyView.above c y a p q) o = stands_down h g c y k'.linked k'.depth k'.whole (smallest_some S (V.at h) c y p).0 q o
-        key_down h g k' (KeyView.lower a e) o = let z : ◌≡◌ {A = ℕ} 0 1 = cc e in absurd (omega arith)
-        key_down h g k' (KeyView.beside b a u q) o = past_down h g b (past S (V.at h) b) k' refl q o
-        key_down h g k' (KeyView.at b i a e f q) o = let z : ◌≡◌ {A = ℕ} 0 1 = cc q in absurd (omega arith)
-        key_down h g k' (KeyView.on b y a e n q) o = let z : ◌≡◌ {A = ℕ} 0 1 = cc q in absurd (omega arith)
+        key_down : (x : Ref) (d : ℕ) (g : H) → KeyWay x d → KeyView S k x d (aside (V.at g) (V.depth g)) → Ok g → OnDown g
+        key_down x d g k' (KeyView.above c y a p q) o = stands_down x d c y g k'.linked k'.depth k'.whole (smallest_some S x c y p).0 q o
+        key_down x d g k' (KeyView.lower a e) o = let z : ◌≡◌ {A = ℕ} 0 1 = cc e in absurd (omega arith)
+        key_down x d g k' (KeyView.beside b a u q) o = past_down x d b (past S x b) g k' refl q o
+        key_down x d g k' (KeyView.at b i a e f q) o = let z : ◌≡◌ {A = ℕ} 0 1 = cc q in absurd (omega arith)
+        key_down x d g k' (KeyView.on b y a e n q) o = let z : ◌≡◌ {A = ℕ} 0 1 = cc q in absurd (omega arith)
 
         aside_fresh : (y : Ref) (d : ℕ) → aside y d ≡ stale → ⊥
         aside_fresh y d e = let z : ◌≡◌ {A = ℕ} 0 1 = cc e in omega arith
 
         next_on : (h g : H) → OnKey h → key_sight deep S k (V.at h) (V.depth h) ≡ onward (V.at g) (V.depth g) → Ok g → OnKey g
-        next_on h g k' e o =
-            let w = onwards h (V.at g) (V.depth g) k' (key_view S k (V.at h) (V.depth h) _ deep e (onward_fresh (V.at g) (V.depth g))) in
-            stands g w.is_node w.linked (on_key h (V.at g) (V.depth g) w) (at_depth h (V.at g) (V.depth g) w) o
+        next_on h g k' e o = stands_on g (onwards k' e) o
 
         newest_on : (h : H) (hs : List H) → OnKey h → Links V deep S k Ok h hs → Ok h → AllByRecursion Ok hs → OnKey (newest h hs)
         newest_on h [] k' w o os = k'
@@ -433,30 +443,30 @@ module _ {deep : ℕ} {Key : List ℕ → Type 0} {flux : Ref → Type 0} {S : T
         place_on h (g ∷ hs) (suc n) k' w o os = place_on g hs n (next_on h g k' (w.0 o) os.0) w.1 os.0 os.1
 
         aside_on : (h : H) (hs : List H) (n : ℕ) (g : H) → OnKey h → Saw V deep S k Ok (h ∷ hs) n (aside (V.at g) (V.depth g)) → Ok h → AllByRecursion Ok hs → Ok g → OnDown g
-        aside_on h [] zero g k' w o os og = key_down h g k' (key_view S k (V.at h) (V.depth h) _ deep (w o) (aside_fresh (V.at g) (V.depth g))) og
+        aside_on h [] zero g k' w o os og = key_down (V.at h) (V.depth h) g k' (key_view S k (V.at h) (V.depth h) _ deep (w o) (aside_fresh (V.at g) (V.depth g))) og
         aside_on h [] (suc n) g k' w o os og = absurd w
         aside_on h (x ∷ hs) zero g k' w o os og =
-            past_down h g (taken V k x) (past S (V.at h) (taken V k x)) k' refl (back_view deep S (taken V k x) (V.at h) (V.depth h) _ (w.2 o) (aside_fresh (V.at g) (V.depth g))) og
+            past_down (V.at h) (V.depth h) (taken V k x) (past S (V.at h) (taken V k x)) g k' refl (back_view deep S (taken V k x) (V.at h) (V.depth h) _ (w.2 o) (aside_fresh (V.at g) (V.depth g))) og
         aside_on h (x ∷ hs) (suc n) g k' w o os og = aside_on x hs n g (next_on h x k' (w.0 o) os.0) w.1 os.0 os.1 og
 
         newest_down : (h : H) (hs : List H) → OnDown h → DownLinks V deep S k Ok h hs → Ok h → AllByRecursion Ok hs → OnDown (newest h hs)
         newest_down h [] k' w o os = k'
         newest_down h (g ∷ hs) k' w o os =
             let v = down_view deep S (V.at h) (V.depth h) _ (w.0 o) (aside_fresh (V.at g) (V.depth g)) in
-            newest_down g hs (stands_down h g v.0 v.1 k'.linked k'.depth k'.whole (smallest_some S (V.at h) v.0 v.1 v.2).0 v.3 os.0) w.1 os.0 os.1
+            newest_down g hs (stands_down (V.at h) (V.depth h) v.0 v.1 g k'.linked k'.depth k'.whole (smallest_some S (V.at h) v.0 v.1 v.2).0 v.3 os.0) w.1 os.0 os.1
 
         -- with every permit sound, a look is not stale
         pub fresh_look : (f : H) (hs : List H) → Key k → Seen V deep S k Ok (on f hs [] look_key) → Ok f → AllByRecursion Ok hs → key_sight deep S k (V.at (newest f hs)) (V.depth (newest f hs)) ≡ stale → ⊥
-        fresh_look f hs key w o os = fresh_key (newest f hs) key (newest_on f hs (root_on f w.0.0 w.0.1 o) w.1 o os)
+        fresh_look f hs key w o os = fresh_key (V.at (newest f hs)) (V.depth (newest f hs)) key (newest_on f hs (root_on f w.0.0 w.0.1 o) w.1 o os)
 
         pub fresh_look_back : (f : H) (hs : List H) (n b : ℕ) → Seen V deep S k Ok (on f hs [] (look_back n)) → Ok f → AllByRecursion Ok hs → back_sight deep S b (V.at (place f hs n)) (V.depth (place f hs n)) ≡ stale → ⊥
-        fresh_look_back f hs n b w o os = fresh_back (place f hs n) b (place_on f hs n (root_on f w.0.0 w.0.1 o) w.1 o os)
+        fresh_look_back f hs n b w o os = fresh_back (V.at (place f hs n)) (V.depth (place f hs n)) b (place_on f hs n (root_on f w.0.0 w.0.1 o) w.1 o os)
 
         pub fresh_look_down : (f g : H) (hs ds : List H) (n : ℕ) → Seen V deep S k Ok (on f hs (g ∷ ds) (look_down n)) → Ok f → AllByRecursion Ok hs → AllByRecursion Ok (g ∷ ds)
             → down_sight deep S (V.at (newest g ds)) (V.depth (newest g ds)) ≡ stale → ⊥
         fresh_look_down f g hs ds n w o os od =
             let d : OnDown g = aside_on f hs n g (root_on f w.0.0 w.0.1 o) (subst (Saw V deep S k Ok (f ∷ hs) n) w.1.2.0 w.1.1) o os od.0 in
-            fresh_down (newest g ds) (newest_down g ds d w.1.2.1 od.0 od.1)
+            fresh_down (V.at (newest g ds)) (V.depth (newest g ds)) (newest_down g ds d w.1.2.1 od.0 od.1)
 
         -- with every permit sound, all nodes of the key's way stand on it
         keys_on : (h : H) (hs : List H) (n : ℕ) (s : Sight) → OnKey h → Saw V deep S k Ok (h ∷ hs) n s → Ok h → AllByRecursion Ok hs → AllByRecursion OnKey (h ∷ hs)
@@ -472,67 +482,67 @@ module _ {deep : ℕ} {Key : List ℕ → Type 0} {flux : Ref → Type 0} {S : T
         -- the key's way leads on to y
         led_on : (h : H) (hs : List H) (y : Ref) (e : ℕ) → OnKey h → Saw V deep S k Ok (h ∷ hs) (length hs) (onward y e) → Ok h → AllByRecursion Ok hs → Aim y e
         led_on h [] y e k' w o os =
-            let q = onwards h y e k' (key_view S k (V.at h) (V.depth h) (onward y e) deep (w o) (onward_fresh y e)) in
-            (q.linked, at_depth h y e q)
+            let q = onwards k' (w o) in
+            (q.linked, at_depth q)
         led_on h (g ∷ hs) y e k' w o os = led_on g hs y e (next_on h g k' (w.0 o) os.0) w.1 os.0 os.1
 
         -- a child that is picked
-        picked_aim : (h : H) (c : ℕ) (y z : Ref) (e : ℕ) → Linked G (V.at h) → V.depth h ≡ length (G.path (V.at h)) → G.path (V.at h) ++ prefix S (V.at h) ≡ G.full (V.at h)
-            → child S (V.at h) c ≡ Some y → picks y (suc (V.depth h + length (prefix S (V.at h)))) ≡ aside z e → Aim z e × (G.path z ≡ G.full (V.at h) ++ c ∷ [])
-        picked_aim h c y z e l d w f q =
+        picked_aim : (x : Ref) (d c : ℕ) (y z : Ref) (e : ℕ) → Linked G x → d ≡ length (G.path x) → G.path x ++ prefix S x ≡ G.full x
+            → child S x c ≡ Some y → picks y (suc (d + length (prefix S x))) ≡ aside z e → Aim z e × (G.path z ≡ G.full x ++ c ∷ [])
+        picked_aim x d c y z e l v w f q =
             let i = picks_aside y _ z e q in
             let j = picks_depth y _ z e q in
-            let m = t.kid (V.at h) c z l (f ∙ ap Some i.0) in
-            let n : length (G.path z) ≡ suc (length (G.full (V.at h))) = ap length m.1 ∙ snoc_len (G.full (V.at h)) c in
-            ((m.0, omega (arith, j, n, d, length-append (G.path (V.at h)) (prefix S (V.at h)), ap length w)), m.1)
+            let m = t.kid x c z l (f ∙ ap Some i.0) in
+            let n : length (G.path z) ≡ suc (length (G.full x)) = ap length m.1 ∙ snoc_len (G.full x) c in
+            ((m.0, omega (arith, j, n, v, length-append (G.path x) (prefix S x), ap length w)), m.1)
 
         -- off the key's way
         abbrev Off : Ref → ℕ → Type 0
         Off y e = Aim y e × (G.path y ≼ k → ⊥)
 
-        past_off : (h : H) (b : ℕ) (y : Ref) (e : ℕ) (o : Option (ℕ × Ref)) → OnKey h → G.full (V.at h) ++ b ∷ [] ≼ k → past S (V.at h) b ≡ o
-            → picked o (suc (V.depth h + length (prefix S (V.at h)))) back ≡ aside y e → Off y e
-        past_off h b y e None k' g f q = let z : ◌≡◌ {A = ℕ} 0 1 = cc q in absurd (omega arith)
-        past_off h b y e (Some (c, z)) k' g f q =
-            let v = past_some S (V.at h) b c z f in
-            let a = picked_aim h c z y e k'.linked k'.depth k'.whole v.0 q in
-            (a.0, λ p. omega (arith, v.1, byte_at (G.full (V.at h)) k b g, byte_at (G.full (V.at h)) k c (subst (λ (u : List ℕ). u ≼ k) a.1 p)))
+        past_off : (x : Ref) (d b : ℕ) (y : Ref) (e : ℕ) (o : Option (ℕ × Ref)) → KeyWay x d → G.full x ++ b ∷ [] ≼ k → past S x b ≡ o
+            → picked o (suc (d + length (prefix S x))) back ≡ aside y e → Off y e
+        past_off x d b y e None k' g f q = let z : ◌≡◌ {A = ℕ} 0 1 = cc q in absurd (omega arith)
+        past_off x d b y e (Some (c, z)) k' g f q =
+            let v = past_some S x b c z f in
+            let a = picked_aim x d c z y e k'.linked k'.depth k'.whole v.0 q in
+            (a.0, λ p. omega (arith, v.1, byte_at (G.full x) k b g, byte_at (G.full x) k c (subst (λ (u : List ℕ). u ≼ k) a.1 p)))
 
-        key_off : (h : H) (y : Ref) (e : ℕ) → OnKey h → KeyView S k (V.at h) (V.depth h) (aside y e) → Off y e
-        key_off h y e k' (KeyView.above c z a p q) =
-            let m = picked_aim h c z y e k'.linked k'.depth k'.whole (smallest_some S (V.at h) c z p).0 q in (
+        key_off : (x : Ref) (d : ℕ) (y : Ref) (e : ℕ) → KeyWay x d → KeyView S k x d (aside y e) → Off y e
+        key_off x d y e k' (KeyView.above c z a p q) =
+            let m = picked_aim x d c z y e k'.linked k'.depth k'.whole (smallest_some S x c z p).0 q in (
               m.0,
               λ f.
-                  let r : List ℕ = drop (length (G.path (V.at h))) k in
-                  let i : G.full (V.at h) ≼ k = ≼_trans (G.full (V.at h)) (G.full (V.at h) ++ c ∷ []) k (≼_app (G.full (V.at h)) (c ∷ [])) (subst (λ (u : List ℕ). u ≼ k) m.1 f) in
-                  let j = begins_drop (G.path (V.at h)) (prefix S (V.at h)) k (subst (λ (u : List ℕ). u ≼ k) (sym k'.whole) i) in
-                  first_not r (larger_first (prefix S (V.at h)) r r (subst (λ (n : ℕ). against (prefix S (V.at h)) (drop n k) ≡ larger) k'.depth a) j),
+                  let r : List ℕ = drop (length (G.path x)) k in
+                  let i : G.full x ≼ k = ≼_trans (G.full x) (G.full x ++ c ∷ []) k (≼_app (G.full x) (c ∷ [])) (subst (λ (u : List ℕ). u ≼ k) m.1 f) in
+                  let j = begins_drop (G.path x) (prefix S x) k (subst (λ (u : List ℕ). u ≼ k) (sym k'.whole) i) in
+                  first_not r (larger_first (prefix S x) r r (subst (λ (n : ℕ). against (prefix S x) (drop n k) ≡ larger) k'.depth a) j),
             )
-        key_off h y e k' (KeyView.lower a q) = let z : ◌≡◌ {A = ℕ} 0 1 = cc q in absurd (omega arith)
-        key_off h y e k' (KeyView.beside b a u q) = past_off h b y e (past S (V.at h) b) k' (at_byte h b k' a) refl q
-        key_off h y e k' (KeyView.at b i a f g q) = let z : ◌≡◌ {A = ℕ} 0 1 = cc q in absurd (omega arith)
-        key_off h y e k' (KeyView.on b z a f n q) = let z : ◌≡◌ {A = ℕ} 0 1 = cc q in absurd (omega arith)
+        key_off x d y e k' (KeyView.lower a q) = let z : ◌≡◌ {A = ℕ} 0 1 = cc q in absurd (omega arith)
+        key_off x d y e k' (KeyView.beside b a u q) = past_off x d b y e (past S x b) k' (at_byte x d b k' a) refl q
+        key_off x d y e k' (KeyView.at b i a f g q) = let z : ◌≡◌ {A = ℕ} 0 1 = cc q in absurd (omega arith)
+        key_off x d y e k' (KeyView.on b z a f n q) = let z : ◌≡◌ {A = ℕ} 0 1 = cc q in absurd (omega arith)
 
         saw_off : (h : H) (hs : List H) (n : ℕ) (y : Ref) (e : ℕ) → OnKey h → Saw V deep S k Ok (h ∷ hs) n (aside y e) → Ok h → AllByRecursion Ok hs → Off y e
-        saw_off h [] zero y e k' w o os = key_off h y e k' (key_view S k (V.at h) (V.depth h) (aside y e) deep (w o) (aside_fresh y e))
+        saw_off h [] zero y e k' w o os = key_off (V.at h) (V.depth h) y e k' (key_view S k (V.at h) (V.depth h) (aside y e) deep (w o) (aside_fresh y e))
         saw_off h [] (suc n) y e k' w o os = absurd w
         saw_off h (g ∷ hs) zero y e k' w o os =
-            let q = onwards h (V.at g) (V.depth g) k' (key_view S k (V.at h) (V.depth h) _ deep (w.0 o) (onward_fresh (V.at g) (V.depth g))) in
-            past_off h q.byte y e (past S (V.at h) q.byte) k' q.goes refl
-            (back_view deep S q.byte (V.at h) (V.depth h) (aside y e) (subst (λ (b : ℕ). back_sight deep S b (V.at h) (V.depth h) ≡ aside y e) (byte_taken h g q) (w.2 o)) (aside_fresh y e))
+            let q = onwards k' (w.0 o) in
+            past_off (V.at h) (V.depth h) q.byte y e (past S (V.at h) q.byte) k' q.goes refl
+            (back_view deep S q.byte (V.at h) (V.depth h) (aside y e) (subst (λ (b : ℕ). back_sight deep S b (V.at h) (V.depth h) ≡ aside y e) (byte_taken g q) (w.2 o)) (aside_fresh y e))
         saw_off h (g ∷ hs) (suc n) y e k' w o os = saw_off g hs n y e (next_on h g k' (w.0 o) os.0) w.1 os.0 os.1
 
         -- the way down leads to y
         down_off : (h : H) (hs : List H) (y : Ref) (e : ℕ) → OnDown h → (G.path (V.at h) ≼ k → ⊥) → SawDown V deep S Ok h hs (aside y e) → Ok h → AllByRecursion Ok hs → Off y e × AllByRecursion OnDown (h ∷ hs)
         down_off h [] y e k' f w o os =
             let v = down_view deep S (V.at h) (V.depth h) (aside y e) (w o) (aside_fresh y e) in
-            let a = picked_aim h v.0 v.1 y e k'.linked k'.depth k'.whole (smallest_some S (V.at h) v.0 v.1 v.2).0 v.3 in
+            let a = picked_aim (V.at h) (V.depth h) v.0 v.1 y e k'.linked k'.depth k'.whole (smallest_some S (V.at h) v.0 v.1 v.2).0 v.3 in
             ((a.0, λ p. f (up (V.at h) v.0 k k'.is_node k'.linked (subst (λ (u : List ℕ). u ≼ k) a.1 p))), (k', tt))
         down_off h (g ∷ hs) y e k' f w o os =
             let v = down_view deep S (V.at h) (V.depth h) _ (w.0 o) (aside_fresh (V.at g) (V.depth g)) in
             let c = (smallest_some S (V.at h) v.0 v.1 v.2).0 in
-            let a = picked_aim h v.0 v.1 (V.at g) (V.depth g) k'.linked k'.depth k'.whole c v.3 in
-            let r = down_off g hs y e (stands_down h g v.0 v.1 k'.linked k'.depth k'.whole c v.3 os.0)
+            let a = picked_aim (V.at h) (V.depth h) v.0 v.1 (V.at g) (V.depth g) k'.linked k'.depth k'.whole c v.3 in
+            let r = down_off g hs y e (stands_down (V.at h) (V.depth h) v.0 v.1 g k'.linked k'.depth k'.whole c v.3 os.0)
             (λ p. f (up (V.at h) v.0 k k'.is_node k'.linked (subst (λ (u : List ℕ). u ≼ k) a.1 p))) w.1 os.0 os.1 in
             (r.0, (k', r.1))
 
