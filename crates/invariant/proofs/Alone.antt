@@ -36,13 +36,10 @@ use Rattle.model_slots.specs.Laws.{Mark}
 use Rattle.model_slots.specs.Slots.{count}
 use Rattle.model_slots.proofs.Lists.{true_bit, is_self}
 use Rattle.invariant.proofs.Locking.{acting, left_child, collapse_left, pair_items, stood}
-use Rattle.walks.specs.Look as looks
-use Rattle.model_next.specs.Walk as stage
-use Rattle.walks.specs.Walk as walk
+use Rattle.model_next.specs.Walk as walk
 use Rattle.model_next.specs.Look.{key_sight, back_sight, down_sight}
-use Rattle.walks.proofs.Walks as walks
-use Rattle.model_next.proofs.Snapshot.{Bytewise}
-use Rattle.walks.proofs.Snapshot.{fresh_look, fresh_look_back, fresh_look_down, free_key, free_down}
+use Rattle.model_next.proofs.Walks as walks
+use Rattle.model_next.proofs.Snapshot.{Bytewise, fresh_look, fresh_look_back, fresh_look_down, free_key, free_down}
 use Rattle.invariant.proofs.NextRows.{newest_is, newest_append, nth_place}
 use Rattle.invariant.proofs.Sees.{At, sees}
 
@@ -367,11 +364,11 @@ module _ {N : Numbers} {Key : List ℕ → Type 0} {σ : State} {g : Ghosts} {s 
   all_good (h ∷ hs) a p = ((a.0, p.0), all_good hs a.1 p.1)
 
   -- what next has seen, where its permits are sound
-  seen_good : (w : walk.Walk) → Saw N σ g o w → walk.Seen N.deep σ.tree o.key Good w
+  seen_good : (w : walk.Walk Hold) → Saw N σ g o w → walk.Seen walk.held N.deep σ.tree o.key Good w
   seen_good walk.start a = tt
-  seen_good (walk.on f hs ds k) a = walks.stable N.deep o.key σ.tree σ.tree (SoundAt σ) Good (walk.on f hs ds k) (all_stay (f ∷ hs), all_stay ds) a
+  seen_good (walk.on f hs ds k) a = walks.stable walk.held N.deep o.key σ.tree σ.tree (SoundAt σ) Good (walk.on f hs ds k) (all_stay (f ∷ hs), all_stay ds) a
     where
-      all_stay : (hs : List Hold) → AllByRecursion (walk.Stays N.deep o.key σ.tree σ.tree (SoundAt σ) Good) hs
+      all_stay : (hs : List Hold) → AllByRecursion (walk.Stays walk.held N.deep o.key σ.tree σ.tree (SoundAt σ) Good) hs
       all_stay [] = tt
       all_stay (h ∷ hs) = (record { was = λ q. q.0; key = λ _. refl; back = λ _ _. refl; down = λ _. refl }, all_stay hs)
 
@@ -387,7 +384,7 @@ module _ {N : Numbers} {Key : List ℕ → Type 0} {σ : State} {g : Ghosts} {s 
   nexts_free x d _ _ _ (Nexts.take_key f hs y c w r b n) e a p =
       let q : y ≡ x = cc in
       let k = all_good (f ∷ hs) a p in
-      let u = free_key l.inv.tree key_bytes Good o.key still_good f hs y c (seen_good (walk.on f hs [] (stage.take_key y c)) w) k.0 k.1 (rises_below 0 (f ∷ hs) c r) in
+      let u = free_key l.inv.tree key_bytes walk.held Good o.key still_good f hs y c (seen_good (walk.on f hs [] (walk.take_key y c)) w) k.0 k.1 (rises_below 0 (f ∷ hs) c r) in
       subst (λ (z : Ref). Linked (ghost g) z × Every (λ h. h.at ≡ z → ⊥) (f ∷ hs)) q (u.0, all_every (λ h. h.at ≡ y → ⊥) (f ∷ hs) u.1)
   nexts_free x d _ _ _ (Nexts.check_key f h hs w r) e a p = no_way cc
   nexts_free x d _ _ _ (Nexts.look_key f hs w r) e a p = no_way cc
@@ -395,7 +392,7 @@ module _ {N : Numbers} {Key : List ℕ → Type 0} {σ : State} {g : Ghosts} {s 
   nexts_free x d _ _ _ (Nexts.take_down f hs ds n y c w r r' b i nr) e a p =
       let q : y ≡ x = cc in
       let k = all_split Good (f ∷ hs) ds (all_good (f ∷ hs ++ ds) a p) in
-      let u = free_down l.inv.tree key_bytes Good o.key still_good f hs ds n y c (seen_good (walk.on f hs ds (stage.take_down n y c)) w) k.0.0 k.0.1 k.1 (rises_below 1 ds c r') in
+      let u = free_down l.inv.tree key_bytes walk.held Good o.key still_good f hs ds n y c (seen_good (walk.on f hs ds (walk.take_down n y c)) w) k.0.0 k.0.1 k.1 (rises_below 1 ds c r') in
       subst (λ (z : Ref). Linked (ghost g) z × Every (λ h. h.at ≡ z → ⊥) (f ∷ hs ++ ds)) q
       (u.0, every_join (λ h. h.at ≡ y → ⊥) (f ∷ hs) ds (all_every (λ h. h.at ≡ y → ⊥) (f ∷ hs) u.1) (all_every (λ h. h.at ≡ y → ⊥) ds u.2))
   nexts_free x d _ _ _ (Nexts.check_down f hs h ds n w r r' b) e a p = no_way cc
@@ -411,7 +408,7 @@ module _ {N : Numbers} {Key : List ℕ → Type 0} {σ : State} {g : Ghosts} {s 
   nexts_fresh _ _ _ (Nexts.look_key f hs w r) e me he a p _ _ _ _ (Sees.along x m b) q =
       let k = all_good (f ∷ hs) a p in
       let z = newest_is f hs x (subst (λ (u : List Hold). slice_get u (length u - 1) ≡ Some x) (sym he) b) in
-      fresh_look l.inv.tree key_bytes Good o.key still_good f hs ok.key (seen_good (walk.on f hs [] stage.look_key) w) k.0 k.1
+      fresh_look l.inv.tree key_bytes walk.held Good o.key still_good f hs ok.key (seen_good (walk.on f hs [] walk.look_key) w) k.0 k.1
       (subst (λ (h : Hold). key_sight N.deep σ.tree o.key h.at h.depth ≡ picks.stale) (sym z) q)
   nexts_fresh _ _ _ (Nexts.look_key f hs w r) e me he a p _ _ _ _ (Sees.going_back j x y m b c) q = no_way cc
   nexts_fresh _ _ _ (Nexts.look_key f hs w r) e me he a p _ _ _ _ (Sees.going_down at keys x m b) q = no_way cc
@@ -420,8 +417,8 @@ module _ {N : Numbers} {Key : List ℕ → Type 0} {σ : State} {g : Ghosts} {s 
       let k = all_good (f ∷ hs) a p in
       let u : j ≡ n = cc in
       let z : walk.place f hs n ≡ x = nth_place f hs n x (subst₂ (λ (v : List Hold) (t : ℕ). slice_get v t ≡ Some x) (sym he) u b) in
-      fresh_look_back l.inv.tree key_bytes Good o.key still_good f hs n (looks.taken o.key y) (seen_good (walk.on f hs [] (stage.look_back n)) w) k.0 k.1
-      (subst (λ (h : Hold). back_sight N.deep σ.tree (looks.taken o.key y) h.at h.depth ≡ picks.stale) (sym z) q)
+      fresh_look_back l.inv.tree key_bytes walk.held Good o.key still_good f hs n (picks.taken walk.held o.key y) (seen_good (walk.on f hs [] (walk.look_back n)) w) k.0 k.1
+      (subst (λ (h : Hold). back_sight N.deep σ.tree (picks.taken walk.held o.key y) h.at h.depth ≡ picks.stale) (sym z) q)
   nexts_fresh _ _ _ (Nexts.look_back f hs n w r i) e me he a p _ _ _ _ (Sees.going_down at keys x m b) q = no_way cc
   nexts_fresh _ _ _ (Nexts.take_down f hs ds n y d w r r' b i nr) e me he a p x j keys v se q = no_way cc
   nexts_fresh _ _ _ (Nexts.check_down f hs h ds n w r r' b) e me he a p x j keys v se q = no_way cc
@@ -430,7 +427,7 @@ module _ {N : Numbers} {Key : List ℕ → Type 0} {σ : State} {g : Ghosts} {s 
   nexts_fresh _ _ _ (Nexts.look_down f hs h ds n w r r' i) e me he a p _ _ _ _ (Sees.going_down at keys x m b) q =
       let k = all_split Good (f ∷ hs) (h ∷ ds) (all_good (f ∷ hs ++ h ∷ ds) a p) in
       let z = newest_is f (hs ++ h ∷ ds) x (subst (λ (u : List Hold). slice_get u (length u - 1) ≡ Some x) (sym he) b) in
-      fresh_look_down l.inv.tree key_bytes Good o.key still_good f h hs ds n (seen_good (walk.on f hs (h ∷ ds) (stage.look_down n)) w) k.0.0 k.0.1 k.1
+      fresh_look_down l.inv.tree key_bytes walk.held Good o.key still_good f h hs ds n (seen_good (walk.on f hs (h ∷ ds) (walk.look_down n)) w) k.0.0 k.0.1 k.1
       (subst (λ (j : Hold). down_sight N.deep σ.tree j.at j.depth ≡ picks.stale) (sym z ∙ newest_append f hs h ds) q)
   nexts_fresh _ _ _ (Nexts.scans m f hs ds n i d y w r r' sa b) e me he a p x j keys v se q = no_way cc
 

@@ -25,10 +25,9 @@ use Rattle.invariant.proofs.Setting.{true_false, sound_by, entry_reads, sound_st
 use Rattle.model.specs.Sights.{Seen, stale, empty, missed, other, same_key, onward}
 use Rattle.model.proofs.Bytes.{none_some, some_inj}
 use Rattle.model_next.specs.Next.{NextOf, pair_of}
-use Rattle.model_next.specs.Walk as stage
-use Rattle.walks.specs.Walk as walk
-use Rattle.walks.proofs.Walks as walks
-use Rattle.walks.proofs.Snapshot.{snapshot}
+use Rattle.model_next.specs.Walk as walk
+use Rattle.model_next.proofs.Walks as walks
+use Rattle.model_next.proofs.Snapshot.{snapshot}
 use Rattle.invariant.specs.Effects.{Said, NextSaid, Unsound}
 use Rattle.invariant.proofs.Sees.{At, Tells, sees}
 use Rattle.invariant.proofs.Written.{stand_placed}
@@ -165,7 +164,7 @@ record Scans (N : Numbers) (σ : State) (g : Ghosts) (o : Operation) (l : List H
   downs : List Hold
   place : ℕ
   result : Option ℕ
-  saw : Saw N σ g o (walk.on first keys downs (stage.scan place 0 result))
+  saw : Saw N σ g o (walk.on first keys downs (walk.scan place 0 result))
   says : Says N σ g o a result
   held : l ≡ first ∷ keys ++ downs
 
@@ -187,7 +186,7 @@ next_scans {N = N} {σ = σ} {g = g} {o = o} _ _ _ a (Nexts.scans m f hs ds n i 
       downs = ds;
       place = n;
       result = r;
-      saw = subst (λ (j : ℕ). Saw N σ g o (walk.on f hs ds (stage.scan n j r))) p s;
+      saw = subst (λ (j : ℕ). Saw N σ g o (walk.on f hs ds (walk.scan n j r))) p s;
       says = subst (λ (c : Answer). Says N σ g o c r) q u;
       held = refl;
     }
@@ -208,12 +207,12 @@ scan_begins {N = N} {Key = Key} {σ = σ} {g = g} w v s o e t a q =
     go c (inl k) =
         let all = subst (AllByRecursion (Ok σ)) c.held k in
         let ends = split_all (Ok σ) c.keys c.downs all.1 in
-        let stay : (h : Hold) → Ok σ h → walk.Stays N.deep o.key σ.tree σ.tree (SoundAt σ) (Ok σ) h = λ h p. record { was = λ x. x.0; key = λ x. refl; back = λ x b. refl; down = λ x. refl } in
-        let seen = walks.stable N.deep o.key σ.tree σ.tree (SoundAt σ) (Ok σ) (walk.on c.first c.keys c.downs (stage.scan c.place 0 c.result))
+        let stay : (h : Hold) → Ok σ h → walk.Stays walk.held N.deep o.key σ.tree σ.tree (SoundAt σ) (Ok σ) h = λ h p. record { was = λ x. x.0; key = λ x. refl; back = λ x b. refl; down = λ x. refl } in
+        let seen = walks.stable walk.held N.deep o.key σ.tree σ.tree (SoundAt σ) (Ok σ) (walk.on c.first c.keys c.downs (walk.scan c.place 0 c.result))
         ((stay c.first all.0, All-weaker (Ok σ) _ stay c.keys ends.0), All-weaker (Ok σ) _ stay c.downs ends.1) c.saw in
         inl (says_next (Holds σ.tree (ghost g)) o.key a c.result c.says
-        (snapshot v.tree (λ b m j. small_bytes b j (λ u y. w.keys.bytes b u y m)) (Ok σ) o.key c.result
-        (walks.trail N.deep σ.tree o.key (Ok σ) c.first c.keys c.downs c.place c.result seen)
+        (snapshot v.tree (λ b m j. small_bytes b j (λ u y. w.keys.bytes b u y m)) walk.held (Ok σ) o.key c.result
+        (walks.trail walk.held N.deep σ.tree o.key (Ok σ) c.first c.keys c.downs c.place c.result seen)
         (record { keys = (all.0, ends.0); downs = ends.1; still = λ h p. sound_steady v s o e h p.1 p.0 })))
 
 -- the scan goes on past a sound permit

@@ -21,8 +21,7 @@ use Rattle.std.specs.List.{slice_get}
 use Rattle.model.specs.Sights as sight
 use Rattle.model_next.specs.Look as picks
 use Rattle.model_next.specs.Look.{Sight, key_sight, back_sight, down_sight}
-use Rattle.walks.specs.Look as looks
-use Rattle.walks.specs.Walk as walk
+use Rattle.model_next.specs.Walk as walk
 use Rattle.model_next.proofs.Views.{down_view, back_view, picks_not, picked_not}
 use Rattle.invariant.proofs.Sees.{leads_onward}
 use Rattle.invariant.proofs.NextRows.{Shows, key_shows, back_shows, down_shows, newest_is, newest_append, picks_back}
@@ -177,7 +176,7 @@ module _ {N : Numbers} {σ : State} {g : Ghosts} {o : Operation} where
       let a : (walk.newest f hs).depth ≡ lowest o.held = ap lowest he in
       let s : suc (length hs) ≡ length o.held = ap length he in
       let t = rises_length 0 (f ∷ hs) L r in
-      let byte = looks.taken o.key y in
+      let byte = picks.taken walk.held o.key y in
       picked_less L (left_at L (back n) (f ∷ hs) look) σ.tree o u x j (length o.held) (back_sight L σ.tree byte x.at x.depth) (back_shows L σ.tree o.key x byte) p
       (omega (arith, s, t))
       (λ k z e. omega (arith, a, e, i))

@@ -21,14 +21,12 @@ use Rattle.model_words.proofs.Release.{put_same, put_else}
 use Rattle.model_next.specs.Bytes as bytes
 use Rattle.model_next.specs.Look as picks
 use Rattle.model_next.specs.Look.{Sight, key_sight, back_sight, down_sight}
-use Rattle.walks.proofs.Same.{stays}
-use Rattle.walks.proofs.Walks as walks
+use Rattle.model_next.proofs.Same.{stays}
+use Rattle.model_next.proofs.Walks as walks
 use Rattle.model_next.proofs.Views.{smallest_some, past_some, down_view, back_view, picks_not, picked_not}
 use Rattle.model_slots.proofs.Lists.{is_tells, is_self}
-use Rattle.walks.specs.Look as looks
-use Rattle.model_next.specs.Walk as stage
-use Rattle.walks.specs.Walk as walk
-use Rattle.walks.specs.Walk.{Walk, start, on, Goes, Stays}
+use Rattle.model_next.specs.Walk as walk
+use Rattle.model_next.specs.Walk.{Walk, start, on, held, Goes, Stays}
 use Rattle.invariant.proofs.WalkRows.{restart_ok}
 use Rattle.invariant.proofs.Stable.{kid_safe}
 
@@ -157,21 +155,21 @@ abbrev to : Operation → Mode → List Hold → Stage → Operation
 to o m hs k = record { task = o.task; key = o.key; begun = o.begun; restarts = o.restarts; mode = m; held = hs; stage = k }
 
 module _ {N : Numbers} {τ : State} {g : Ghosts} (u : Operation) where
-  checks_key : (f : Hold) (hs : List Hold) (n : Hold) → Saw N τ g u (on f (hs ++ n ∷ []) [] stage.check_key) → Rises 0 (f ∷ (hs ++ n ∷ [])) (suc N.deep) → Nexts N τ g u by_key (f ∷ (hs ++ n ∷ [])) check_p
+  checks_key : (f : Hold) (hs : List Hold) (n : Hold) → Saw N τ g u (on f (hs ++ n ∷ []) [] walk.check_key) → Rises 0 (f ∷ (hs ++ n ∷ [])) (suc N.deep) → Nexts N τ g u by_key (f ∷ (hs ++ n ∷ [])) check_p
   checks_key f [] n w r = Nexts.check_key f n [] w r
   checks_key f (h ∷ hs) n w r = Nexts.check_key f h (hs ++ n ∷ []) w r
 
-  checks_down : (f : Hold) (hs ds : List Hold) (x : Hold) (n : ℕ) → Saw N τ g u (on f hs (ds ++ x ∷ []) (stage.check_down n)) → Rises 0 (f ∷ hs) N.deep → Rises 1 (ds ++ x ∷ []) (suc N.deep) → n ≤ length hs
+  checks_down : (f : Hold) (hs ds : List Hold) (x : Hold) (n : ℕ) → Saw N τ g u (on f hs (ds ++ x ∷ []) (walk.check_down n)) → Rises 0 (f ∷ hs) N.deep → Rises 1 (ds ++ x ∷ []) (suc N.deep) → n ≤ length hs
       → Nexts N τ g u (down n (suc (length hs))) (f ∷ hs ++ (ds ++ x ∷ [])) check_p
   checks_down f hs [] x n w r q l = Nexts.check_down f hs x [] n w r q l
   checks_down f hs (h ∷ ds) x n w r q l = Nexts.check_down f hs h (ds ++ x ∷ []) n w r q l
 
   -- with nothing on the way down
-  takes_aside : (f : Hold) (hs : List Hold) (n : ℕ) (y : Ref) (d : ℕ) → Saw N τ g u (on f hs [] (stage.take_down n y d)) → Rises 0 (f ∷ hs) N.deep → 1 ≤ d → d ≤ N.deep → n ≤ length hs → (y ≡ root → ⊥)
+  takes_aside : (f : Hold) (hs : List Hold) (n : ℕ) (y : Ref) (d : ℕ) → Saw N τ g u (on f hs [] (walk.take_down n y d)) → Rises 0 (f ∷ hs) N.deep → 1 ≤ d → d ≤ N.deep → n ≤ length hs → (y ≡ root → ⊥)
       → Nexts N τ g u (down n (suc (length hs))) (f ∷ hs) (op.take y d)
   takes_aside f hs n y d w r a b l x = subst (λ (q : List Hold). Nexts N τ g u (down n (suc (length hs))) q (op.take y d)) (append-nil (f ∷ hs)) (Nexts.take_down f hs [] n y d w r a b l x)
 
-  scans_key : (m : Mode) (f : Hold) (hs : List Hold) (n : ℕ) (a : Answer) (r : Option ℕ) → Saw N τ g u (on f hs [] (stage.scan n 0 r)) → Rises 0 (f ∷ hs) N.deep → 1 ≤ N.deep → Says N τ g u a r
+  scans_key : (m : Mode) (f : Hold) (hs : List Hold) (n : ℕ) (a : Answer) (r : Option ℕ) → Saw N τ g u (on f hs [] (walk.scan n 0 r)) → Rises 0 (f ∷ hs) N.deep → 1 ≤ N.deep → Says N τ g u a r
       → Nexts N τ g u m (f ∷ hs) (scan 0 a)
   scans_key m f hs n a r w x l q = subst (λ (q : List Hold). Nexts N τ g u m q (scan 0 a)) (append-nil (f ∷ hs)) (Nexts.scans m f hs [] n 0 a r w x l q (omega arith))
 
@@ -179,23 +177,23 @@ module _ {N : Numbers} {τ : State} {g : Ghosts} (u : Operation) where
 module _ {N : Numbers} {Key : List ℕ → Type 0} {σ τ : State} {g : Ghosts} {s : ℕ} {o : Operation} {z : Seat} {r : Outcome} (st : Step N Key σ τ g s o z r) (t : o.task ≡ op.next)
     (tree : τ.tree ≡ σ.tree) (was : (h : Hold) → SoundAt τ h → SoundAt σ h) where
   abbrev Kept : Hold → Type 0
-  Kept h = Stays N.deep o.key σ.tree τ.tree (SoundAt σ) (SoundAt τ) h
+  Kept h = Stays held N.deep o.key σ.tree τ.tree (SoundAt σ) (SoundAt τ) h
 
   all_kept : (hs : List Hold) → AllByRecursion Kept hs
   all_kept [] = tt
   all_kept (h ∷ hs) = (
-    stays N.deep o.key σ.tree τ.tree (SoundAt σ) (SoundAt τ) h (was h)
+    stays held N.deep o.key σ.tree τ.tree (SoundAt σ) (SoundAt τ) h (was h)
         (λ x. (ap (λ (S : Tree). prefix S h.at) tree, ap (λ (S : Tree). child S h.at) tree, λ b i q. ap (λ (S : Tree). (S.entries i).key) tree)),
     all_kept hs,
   )
 
-  carry : (w : Walk) → Saw N σ g o w → Saw N τ g o w
+  carry : (w : Walk Hold) → Saw N σ g o w → Saw N τ g o w
   carry start a = tt
-  carry (on f hs ds k) a = walks.stable N.deep o.key σ.tree τ.tree (SoundAt σ) (SoundAt τ) (on f hs ds k) (all_kept (f ∷ hs), all_kept ds) a
+  carry (on f hs ds k) a = walks.stable held N.deep o.key σ.tree τ.tree (SoundAt σ) (SoundAt τ) (on f hs ds k) (all_kept (f ∷ hs), all_kept ds) a
 
   -- a step of the walk
-  goes : (w v : Walk) → Saw N σ g o w → Goes N.deep σ.tree o.key w v → Saw N τ g o v
-  goes w v a q = carry v (walks.kept N.deep σ.tree o.key (SoundAt σ) w v a q)
+  goes : (w v : Walk Hold) → Saw N σ g o w → Goes held N.deep σ.tree o.key w v → Saw N τ g o v
+  goes w v a q = carry v (walks.kept held N.deep σ.tree o.key (SoundAt σ) w v a q)
 
   says_kept : (u : Operation) → u.begun ≡ o.begun → (a : Answer) (x : Option ℕ) → Says N σ g o a x → Says N τ g u a x
   says_kept u e _ _ Says.says_none = Says.says_none
@@ -219,14 +217,14 @@ module _ {N : Numbers} {Key : List ℕ → Type 0} {σ τ : State} {g : Ghosts} 
       let e : 0 ≡ d = cc in
       let here = ap (λ (t : Bool). cond t look check_p) (ap (λ (y : Ref). is y root) p ∙ is_self root) in
       let f : Hold = walk.hold x d c in
-      let v : Saw N τ g o (on f [] [] stage.look_key) = ((p, sym e), tt) in
+      let v : Saw N τ g o (on f [] [] walk.look_key) = ((p, sym e), tt) in
       subst (λ (k : Stage). Good by_key (f ∷ []) k) (sym here)
       (good by_key (f ∷ []) look (b, tt) (Aims.at_none (λ y d q. no_way cc)) (Nexts.look_key f [] v (omega arith, omega (arith, e))))
   take_ok x d c _ _ _ (Nexts.take_key f hs y e w r l n) q a b =
       let p : y ≡ x = cc in
       let i : e ≡ d = cc in
       let h : Hold = walk.hold y e c in
-      let v = goes (on f hs [] (stage.take_key y e)) (on f (hs ++ h ∷ []) [] stage.check_key) w (Goes.takes_key c) in
+      let v = goes (on f hs [] (walk.take_key y e)) (on f (hs ++ h ∷ []) [] walk.check_key) w (Goes.takes_key h (refl, refl)) in
       subst₂ (λ (y : Ref) (e : ℕ). Good by_key (f ∷ (hs ++ walk.hold y e c ∷ [])) (after_take y)) p i
       (subst (λ (k : Stage). Good by_key (f ∷ (hs ++ h ∷ [])) k) (sym (not_root y n))
       (good by_key (f ∷ (hs ++ h ∷ [])) check_p (a.0, every_snoc (λ h. Reads N σ g o h.at) hs h a.1 (subst (λ (x : Ref). Reads N σ g o x) (sym p) b)) (Aims.at_none (λ y d q. no_way cc))
@@ -238,7 +236,7 @@ module _ {N : Numbers} {Key : List ℕ → Type 0} {σ τ : State} {g : Ghosts} 
       let p : y ≡ x = cc in
       let j : e ≡ d = cc in
       let h : Hold = walk.hold y e c in
-      let v = goes (on f hs ds (stage.take_down n y e)) (on f hs (ds ++ h ∷ []) (stage.check_down n)) w (Goes.takes_down c) in
+      let v = goes (on f hs ds (walk.take_down n y e)) (on f hs (ds ++ h ∷ []) (walk.check_down n)) w (Goes.takes_down h (refl, refl)) in
       let m : Mode = down n (suc (length hs)) in
       let ls : List Hold = f ∷ hs ++ ds ++ h ∷ [] in
       let ks : List Hold = f ∷ hs ++ (ds ++ h ∷ []) in
@@ -256,12 +254,12 @@ module _ {N : Numbers} {Key : List ℕ → Type 0} {σ τ : State} {g : Ghosts} 
   check_ok _ _ _ Nexts.starts q a = no_way cc
   check_ok _ _ _ (Nexts.take_key f hs y e w r l n) q a = no_way cc
   check_ok _ _ _ (Nexts.check_key f h hs w r) q a = good by_key (f ∷ h ∷ hs) look a (Aims.at_none (λ y d q. no_way cc))
-      (Nexts.look_key f (h ∷ hs) (goes (on f (h ∷ hs) [] stage.check_key) (on f (h ∷ hs) [] stage.look_key) w Goes.checks_key) r)
+      (Nexts.look_key f (h ∷ hs) (goes (on f (h ∷ hs) [] walk.check_key) (on f (h ∷ hs) [] walk.look_key) w Goes.checks_key) r)
   check_ok _ _ _ (Nexts.look_key f hs w r) q a = no_way cc
   check_ok _ _ _ (Nexts.look_back f hs n w r l) q a = no_way cc
   check_ok _ _ _ (Nexts.take_down f hs ds n y e w r r' l i nr) q a = no_way cc
   check_ok _ _ _ (Nexts.check_down f hs h ds n w r r' i) q a = good (down n (suc (length hs))) (f ∷ hs ++ h ∷ ds) look a (Aims.at_none (λ y d q. no_way cc))
-      (Nexts.look_down f hs h ds n (goes (on f hs (h ∷ ds) (stage.check_down n)) (on f hs (h ∷ ds) (stage.look_down n)) w Goes.checks_down) r r' i)
+      (Nexts.look_down f hs h ds n (goes (on f hs (h ∷ ds) (walk.check_down n)) (on f hs (h ∷ ds) (walk.look_down n)) w Goes.checks_down) r r' i)
   check_ok _ _ _ (Nexts.look_down f hs h ds n w r r' i) q a = no_way cc
   check_ok _ _ _ (Nexts.scans m f hs ds n i e y w r r' sa l) q a = no_way cc
 
@@ -280,7 +278,7 @@ module _ {N : Numbers} {Key : List ℕ → Type 0} {σ τ : State} {g : Ghosts} 
       let k : Stage = scan (suc j) e in
       subst₂ (λ (j : ℕ) (e : Answer). Good m (f ∷ hs ++ ds) (scan (suc j) e)) p x
       (good m (f ∷ hs ++ ds) k b (Aims.at_none (λ y d q. no_way cc))
-      (Nexts.scans m f hs ds n (suc j) e y (goes (on f hs ds (stage.scan n j y)) (on f hs ds (stage.scan n (suc j) y)) w Goes.scans) r r' (says_kept (to o m (f ∷ hs ++ ds) k) refl e y sa) (omega (arith, p, l))))
+      (Nexts.scans m f hs ds n (suc j) e y (goes (on f hs ds (walk.scan n j y)) (on f hs ds (walk.scan n (suc j) y)) w Goes.scans) r r' (says_kept (to o m (f ∷ hs ++ ds) k) refl e y sa) (omega (arith, p, l))))
 
   -- a child of what may be read is not the root
   no_root : (x : Ref) → Safe o.begun g x → (b : ℕ) (y : Ref) → child σ.tree x b ≡ Some y → y ≡ root → ⊥
@@ -353,7 +351,7 @@ module _ {N : Numbers} {Key : List ℕ → Type 0} {σ τ : State} {g : Ghosts} 
   pick_ok u _ _ _ (Nexts.check_key f h hs w r) q me he x j keys v se p = no_way cc
   pick_ok u _ _ _ (Nexts.look_key f hs w r) q me he _ _ _ _ (Sees.along x m b) p =
       let e : walk.newest f hs ≡ x = last_is f hs x he b in
-      let a = goes (on f hs [] stage.look_key) (walk.looked f hs (length hs) (key_sight N.deep σ.tree o.key (walk.newest f hs).at (walk.newest f hs).depth)) w Goes.looks_key in
+      let a = goes (on f hs [] walk.look_key) (walk.looked f hs (length hs) (key_sight N.deep σ.tree o.key (walk.newest f hs).at (walk.newest f hs).depth)) w Goes.looks_key in
       let c = key_shows N.deep σ.tree o.key x in
       looked_ok f hs (length hs) x (key_sight N.deep σ.tree o.key x.at x.depth) u he (omega arith) (reads_of x (subst (λ (l : List Hold). In x l) he (subst (λ (y : Hold). In y (f ∷ hs)) e (in_newest f hs)))) c
       (λ y d t. rises_to 0 f hs (suc N.deep) d r (subst (λ (y : Hold). y.depth < d) (sym e) (subst (λ (v : Sight). Shows N.deep σ.tree x v) t c).deeper))
@@ -367,13 +365,13 @@ module _ {N : Numbers} {Key : List ℕ → Type 0} {σ τ : State} {g : Ghosts} 
       let i : j ≡ n = cc in
       let e : walk.place f hs n ≡ x = nth_place f hs n x (subst₂ (λ (l : List Hold) (i : ℕ). slice_get l i ≡ Some x) (sym he) i b) in
       let d : walk.place f hs (suc n) ≡ y = nth_place f hs (suc n) y (subst₂ (λ (l : List Hold) (i : ℕ). slice_get l i ≡ Some y) (sym he) (ap suc i) c) in
-      let v : Sight = back_sight N.deep σ.tree (looks.taken o.key y) x.at x.depth in
-      let a = goes (on f hs [] (stage.look_back n)) (walk.looked f hs n (back_sight N.deep σ.tree (looks.taken o.key (walk.place f hs (suc n))) (walk.place f hs n).at (walk.place f hs n).depth)) w Goes.looks_back in
+      let v : Sight = back_sight N.deep σ.tree (picks.taken held o.key y) x.at x.depth in
+      let a = goes (on f hs [] (walk.look_back n)) (walk.looked f hs n (back_sight N.deep σ.tree (picks.taken held o.key (walk.place f hs (suc n))) (walk.place f hs n).at (walk.place f hs n).depth)) w Goes.looks_back in
       looked_ok f hs n x v u he (omega (arith, l)) (reads_of x (subst (λ (l : List Hold). In x l) he (subst (λ (y : Hold). In y (f ∷ hs)) e (in_place' f hs n))))
-      (back_shows N.deep σ.tree o.key x (looks.taken o.key y))
-      (λ z d t. absurd (picked_not (picks.past σ.tree x.at (looks.taken o.key y)) _ z d (back_view N.deep σ.tree (looks.taken o.key y) x.at x.depth (picks.onward z d) t (λ q. no_way cc))))
+      (back_shows N.deep σ.tree o.key x (picks.taken held o.key y))
+      (λ z d t. absurd (picked_not (picks.past σ.tree x.at (picks.taken held o.key y)) _ z d (back_view N.deep σ.tree (picks.taken held o.key y) x.at x.depth (picks.onward z d) t (λ q. no_way cc))))
       (λ l. r)
-      (subst₂ (λ (p c : Hold). Saw N τ g o (walk.looked f hs n (back_sight N.deep σ.tree (looks.taken o.key c) p.at p.depth))) e d a)
+      (subst₂ (λ (p c : Hold). Saw N τ g o (walk.looked f hs n (back_sight N.deep σ.tree (picks.taken held o.key c) p.at p.depth))) e d a)
       (subst₂ (λ (i n : ℕ). picked σ.tree o i n v ≡ Some (busy u)) i (sym (ap length he)) p)
   pick_ok u _ _ _ (Nexts.look_back f hs n w r l) q me he _ _ _ _ (Sees.going_down at keys x m b) p = no_way cc
   pick_ok u _ _ _ (Nexts.take_down f hs ds n y d w r r' l i nr) q me he x j keys v se p = no_way cc
@@ -386,7 +384,7 @@ module _ {N : Numbers} {Key : List ℕ → Type 0} {σ τ : State} {g : Ghosts} 
       let c : walk.newest f (hs ++ h ∷ ds) ≡ x = last_is f (hs ++ h ∷ ds) x he b in
       let e : walk.newest h ds ≡ x = sym (newest_append f hs h ds) ∙ c in
       let v : Sight = down_sight N.deep σ.tree x.at x.depth in
-      let a = goes (on f hs (h ∷ ds) (stage.look_down n)) (walk.looked_down f hs (h ∷ ds) n (down_sight N.deep σ.tree (walk.newest h ds).at (walk.newest h ds).depth)) w Goes.looks_down in
+      let a = goes (on f hs (h ∷ ds) (walk.look_down n)) (walk.looked_down f hs (h ∷ ds) n (down_sight N.deep σ.tree (walk.newest h ds).at (walk.newest h ds).depth)) w Goes.looks_down in
       downed_ok f hs h ds n x v u he l (reads_of x (subst (λ (l : List Hold). In x l) he (subst (λ (y : Hold). In y (f ∷ hs ++ h ∷ ds)) c (in_newest f (hs ++ h ∷ ds)))))
       (down_shows N.deep σ.tree o.key x)
       (λ t. let w = down_view N.deep σ.tree x.at x.depth picks.back t (λ q. no_way cc) in picks_back w.1 _ w.3)

@@ -18,6 +18,7 @@ use Rattle.model_slots.proofs.Lists.{clear_same}
 use mathlib.Core.Path.{fun_ext}
 use Rattle.machine.specs.Calls.{Call, Reply, seat_of, Accepted, Fits, Did, started, begun_at}
 use Rattle.machine.specs.Runs as runs
+use Rattle.machine.specs.Runs.{made, on}
 use Rattle.runs.specs.Runs.{New, Run}
 use Rattle.runs.specs.Happened.{happened, events, in_pool}
 use Rattle.runs.specs.Named.{row_names}
@@ -84,7 +85,7 @@ module _ {K : Type 0} {N : Numbers} {accepts : K → Type 0} {bytes : K → List
 
   -- one call more
   pub record Advance {σ τ : State} {r : Run N accepts bytes σ} (g : Good r) (e : runs.Event K) (d : Did N accepts bytes σ τ e.call e.reply) : Type 0 where
-    pub after : Good (Run.on r e d)
+    pub after : Good (on r e d)
     pub effect : CallEffect g.ghosts after.ghosts d
 
   -- the queues of a run hold spare slots
@@ -101,14 +102,14 @@ module _ {K : Type 0} {N : Numbers} {accepts : K → Type 0} {bytes : K → List
   opens_begun r ok s = ap (λ (h : List Event). opens h s) (sym ok.tells) ∙ sym ((good ok.run).begun' s) ∙ ok.agree.begun s
 
   module _ (law : Lawful N (KeyOf accepts bytes)) where
-    pub good_made : {σ : State} (n : New N σ) → Good (Run.made n)
+    pub good_made : {σ : State} (n : New N σ) → Good (made n)
     unfolding mark
     good_made n =
         let ok = slots_made {accepts = accepts} {bytes = bytes} n in
-        record { ghosts = beginning N; inv = start_kept law n (queued_by (Run.made n) ok (beginning N) (λ x. refl)); marks = λ x. refl; slots = ok }
+        record { ghosts = beginning N; inv = start_kept law n (queued_by (made n) ok (beginning N) (λ x. refl)); marks = λ x. refl; slots = ok }
 
     -- a call that leaves slots and marks
-    steady : {σ τ : State} {r : Run N accepts bytes σ} (g : Good r) (c : Call K) (p : Reply) (d : Did N accepts bytes σ τ c p) → happened d ≡ [] → CallUnlinks g.ghosts d → Inv N (KeyOf accepts bytes) τ g.ghosts → Good (Run.on r (record { call = c; reply = p }) d)
+    steady : {σ τ : State} {r : Run N accepts bytes σ} (g : Good r) (c : Call K) (p : Reply) (d : Did N accepts bytes σ τ c p) → happened d ≡ [] → CallUnlinks g.ghosts d → Inv N (KeyOf accepts bytes) τ g.ghosts → Good (on r (record { call = c; reply = p }) d)
     steady {r = r} g c p d e u v = record {
       ghosts = g.ghosts;
       inv = v;
@@ -154,7 +155,7 @@ module _ {K : Type 0} {N : Numbers} {accepts : K → Type 0} {bytes : K → List
         let ev : runs.Event K = record { call = Call.step s; reply = Rattle.machine.specs.Calls.came q } in
         let ok = slots_on r g.slots g.inv g.marks ev d k.unlinks in
         let m = k.marks (in_pool N) (events r) g.marks (sweeps_epoch r g.slots) in
-        record { after = record { ghosts = k.after; inv = inv_kept st w k (queued_by (Run.on r ev d) ok k.after m); marks = m; slots = ok }; effect = k.effect }
+        record { after = record { ghosts = k.after; inv = inv_kept st w k (queued_by (on r ev d) ok k.after m); marks = m; slots = ok }; effect = k.effect }
     advance_by {σ} {τ} {r} g _ _ (Did.sweeps n a w) =
         let d : Did N accepts bytes σ τ Call.sweep (Rattle.machine.specs.Calls.swept n) = Did.sweeps n a w in
         let ev : runs.Event K = record { call = Call.sweep; reply = Rattle.machine.specs.Calls.swept n } in
@@ -162,11 +163,11 @@ module _ {K : Type 0} {N : Numbers} {accepts : K → Type 0} {bytes : K → List
         let f : (λ (q : ℕ). clear (λ s. begun_at (σ.seats s)) q seat_count) ≡ (λ (q : ℕ). clear (opens (events r)) q 8) =
         fun_ext (λ q. clear_same (λ s. begun_at (σ.seats s)) (opens (events r)) (λ s. sym (opens_begun r g.slots s)) q 8) in
         let m : (x : Ref) → (sweeping σ g.ghosts).mark x ≡ mark root (in_pool N) (sweep n ∷ events r) x = λ x. ap₂ (λ (h : ℕ → Bool) (k : Mark). swept h k) f (g.marks x) in
-        record { after = record { ghosts = sweeping σ g.ghosts; inv = sweep_kept g.inv w (queued_by (Run.on r ev d) ok (sweeping σ g.ghosts) m); marks = m; slots = ok }; effect = sweep_holds g.inv w }
+        record { after = record { ghosts = sweeping σ g.ghosts; inv = sweep_kept g.inv w (queued_by (on r ev d) ok (sweeping σ g.ghosts) m); marks = m; slots = ok }; effect = sweep_holds g.inv w }
 
     pub advance : {σ τ : State} {r : Run N accepts bytes σ} (g : Good r) (e : runs.Event K) (d : Did N accepts bytes σ τ e.call e.reply) → Advance g e d
     advance g e d = advance_by g e.call e.reply d
 
     pub good_run : {σ : State} (r : Run N accepts bytes σ) → Good r
-    good_run (Run.made n) = good_made n
-    good_run (Run.on r e d) = (advance (good_run r) e d).after
+    good_run (made n) = good_made n
+    good_run (on r e d) = (advance (good_run r) e d).after

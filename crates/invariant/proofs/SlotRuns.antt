@@ -23,7 +23,7 @@ use Rattle.machine.specs.Items.{Pooled, Plain, Does}
 use Rattle.machine.specs.Choices.{key_byte, left, collapsing as collapsing', decided, begun}
 use Rattle.machine.specs.Steps.{after_take, pair_at, goes_back, picked, Refuses, Row, Follows, NoRoom}
 use Rattle.machine.specs.Calls.{Call, Reply, Fits, Turns, Swept, due, Did, begun_at}
-use Rattle.machine.specs.Runs.{Event, rising, first_slot}
+use Rattle.machine.specs.Runs.{Event, rising, first_slot, made, on}
 use Rattle.runs.specs.Runs.{New, Run}
 use Rattle.runs.specs.Happened.{item_events, after_item, no_room_events, row_events, happened, events, in_pool}
 use Rattle.invariant.specs.Ghosts.{Ghosts}
@@ -247,7 +247,7 @@ module _ {N : Numbers} {σ : State} (n : New N σ) where
       (pools p)
 
 -- a just made index
-pub slots_made : {K : Type 0} {N : Numbers} {accepts : K → Type 0} {bytes : K → List ℕ} {σ : State} (n : New N σ) → SlotsOk {accepts = accepts} {bytes = bytes} (Run.made n)
+pub slots_made : {K : Type 0} {N : Numbers} {accepts : K → Type 0} {bytes : K → List ℕ} {σ : State} (n : New N σ) → SlotsOk {accepts = accepts} {bytes = bytes} (made n)
 slots_made {N = N} {σ = σ} n = record {
   state = record { spare = σ.spare; retired = []; drawn = λ s. []; linked = λ x. is x root; epoch = 0; begun = λ s. None };
   run = slots.Run.made (record { linked = λ x. refl; spare = spare_made n; retired = refl; drawn = λ s. refl; epoch = refl; begun = λ s. refl });
@@ -724,7 +724,7 @@ module _ {K : Type 0} {N : Numbers} {accepts : K → Type 0} {bytes : K → List
 
 -- one call more
 pub slots_on : {K : Type 0} {N : Numbers} {accepts : K → Type 0} {bytes : K → List ℕ} {σ τ : State} {Key : List ℕ → Type 0} {g : Ghosts} (r : Run N accepts bytes σ) → SlotsOk r → Inv N Key σ g
-    → ((x : Ref) → g.mark x ≡ mark root (in_pool N) (events r) x) → (e : Event K) (d : Did N accepts bytes σ τ e.call e.reply) → CallUnlinks g d → SlotsOk (Run.on r e d)
+    → ((x : Ref) → g.mark x ≡ mark root (in_pool N) (events r) x) → (e : Event K) (d : Did N accepts bytes σ τ e.call e.reply) → CallUnlinks g d → SlotsOk (on r e d)
 slots_on {N = N} {τ = τ} {g = g} r ok v m e d u = record { state = w.state; run = w.ran.run; tells = w.ran.tells; agree = w.agree }
   where
     lk : (x : Ref) → is_linked (g.mark x) ≡ ok.state.linked x

@@ -28,11 +28,10 @@ use Rattle.machine.specs.Choices as choices
 use Rattle.machine.specs.Items as Items
 use Rattle.model_next.specs.Look.{least}
 use Rattle.std.specs.List.{AllByRecursion}
-use Rattle.model_next.specs.Walk as stage
-use Rattle.walks.specs.Walk as walk
-use Rattle.walks.specs.Walk.{Stays}
-use Rattle.walks.proofs.Same.{stays}
-use Rattle.walks.proofs.Walks as walks
+use Rattle.model_next.specs.Walk as walk
+use Rattle.model_next.specs.Walk.{held, Stays}
+use Rattle.model_next.proofs.Same.{stays}
+use Rattle.model_next.proofs.Walks as walks
 use Rattle.model_words.specs.Words as words
 use Rattle.model_words.proofs.Owners as owners
 use Rattle.model_words.proofs.Rely as rely
@@ -434,20 +433,20 @@ module _ {N : Numbers} {Key : List ℕ → Type 0} {σ τ : State} {g h : Ghosts
   walks_keep hs _ m (Walks.acts d is x a) = Walks.acts d is x (acts_keep d is x hs m a)
 
   -- next
-  stays_there : (k : Hold) → In k o.held → Stays N.deep o.key σ.tree τ.tree (SoundAt σ) (SoundAt τ) k
-  stays_there k m = stays N.deep o.key σ.tree τ.tree (SoundAt σ) (SoundAt τ) k (was_sound k m)
+  stays_there : (k : Hold) → In k o.held → Stays held N.deep o.key σ.tree τ.tree (SoundAt σ) (SoundAt τ) k
+  stays_there k m = stays held N.deep o.key σ.tree τ.tree (SoundAt σ) (SoundAt τ) k (was_sound k m)
       (λ s. let a = keeps k m s in (a.prefix_same, kids k.at a, λ b l q. ap (λ (x : trees.Entry). x.key) (kid_keeps k m b l q)))
 
-  all_stay : (hs : List Hold) → Has hs → AllByRecursion (Stays N.deep o.key σ.tree τ.tree (SoundAt σ) (SoundAt τ)) hs
+  all_stay : (hs : List Hold) → Has hs → AllByRecursion (Stays held N.deep o.key σ.tree τ.tree (SoundAt σ) (SoundAt τ)) hs
   all_stay [] m = tt
   all_stay (k ∷ hs) m = (stays_there k (m k (inl refl)), all_stay hs (λ x q. m x (inr q)))
 
-  saw_keeps : (f : Hold) (hs ds : List Hold) (k : stage.Stage) → Has (f ∷ hs ++ ds) → Saw N σ g o (walk.on f hs ds k) → Saw N τ h o (walk.on f hs ds k)
-  saw_keeps f hs ds k m w = walks.stable N.deep o.key σ.tree τ.tree (SoundAt σ) (SoundAt τ) (walk.on f hs ds k)
+  saw_keeps : (f : Hold) (hs ds : List Hold) (k : walk.Stage) → Has (f ∷ hs ++ ds) → Saw N σ g o (walk.on f hs ds k) → Saw N τ h o (walk.on f hs ds k)
+  saw_keeps f hs ds k m w = walks.stable held N.deep o.key σ.tree τ.tree (SoundAt σ) (SoundAt τ) (walk.on f hs ds k)
       (all_stay (f ∷ hs) (λ x q. m x (in_front x (f ∷ hs) ds q)), all_stay ds (λ x q. m x (in_back x (f ∷ hs) ds q))) w
 
-  saw_key : (f : Hold) (hs : List Hold) (k : stage.Stage) → Has (f ∷ hs) → Saw N σ g o (walk.on f hs [] k) → Saw N τ h o (walk.on f hs [] k)
-  saw_key f hs k m w = walks.stable N.deep o.key σ.tree τ.tree (SoundAt σ) (SoundAt τ) (walk.on f hs [] k) (all_stay (f ∷ hs) m, tt) w
+  saw_key : (f : Hold) (hs : List Hold) (k : walk.Stage) → Has (f ∷ hs) → Saw N σ g o (walk.on f hs [] k) → Saw N τ h o (walk.on f hs [] k)
+  saw_key f hs k m w = walks.stable held N.deep o.key σ.tree τ.tree (SoundAt σ) (SoundAt τ) (walk.on f hs [] k) (all_stay (f ∷ hs) m, tt) w
 
   says_keep : (a : Answer) (r : Option ℕ) → Says N σ g o a r → Says N τ h o a r
   says_keep _ _ Says.says_none = Says.says_none
@@ -456,14 +455,14 @@ module _ {N : Numbers} {Key : List ℕ → Type 0} {σ τ : State} {g h : Ghosts
 
   nexts_keep : (m : Mode) (hs : List Hold) (k : Stage) → Has hs → Nexts N σ g o m hs k → Nexts N τ h o m hs k
   nexts_keep _ _ _ m Nexts.starts = Nexts.starts
-  nexts_keep _ _ _ m (Nexts.take_key f hs y d w r q n) = Nexts.take_key f hs y d (saw_key f hs (stage.take_key y d) m w) r q n
-  nexts_keep _ _ _ m (Nexts.check_key f k hs w r) = Nexts.check_key f k hs (saw_key f (k ∷ hs) stage.check_key m w) r
-  nexts_keep _ _ _ m (Nexts.look_key f hs w r) = Nexts.look_key f hs (saw_key f hs stage.look_key m w) r
-  nexts_keep _ _ _ m (Nexts.look_back f hs n w r q) = Nexts.look_back f hs n (saw_key f hs (stage.look_back n) m w) r q
-  nexts_keep _ _ _ m (Nexts.take_down f hs ds n y d w r q t u z) = Nexts.take_down f hs ds n y d (saw_keeps f hs ds (stage.take_down n y d) m w) r q t u z
-  nexts_keep _ _ _ m (Nexts.check_down f hs k ds n w r q t) = Nexts.check_down f hs k ds n (saw_keeps f hs (k ∷ ds) (stage.check_down n) m w) r q t
-  nexts_keep _ _ _ m (Nexts.look_down f hs k ds n w r q t) = Nexts.look_down f hs k ds n (saw_keeps f hs (k ∷ ds) (stage.look_down n) m w) r q t
-  nexts_keep _ _ _ m (Nexts.scans b f hs ds n l a r w x y s z) = Nexts.scans b f hs ds n l a r (saw_keeps f hs ds (stage.scan n l r) m w) x y (says_keep a r s) z
+  nexts_keep _ _ _ m (Nexts.take_key f hs y d w r q n) = Nexts.take_key f hs y d (saw_key f hs (walk.take_key y d) m w) r q n
+  nexts_keep _ _ _ m (Nexts.check_key f k hs w r) = Nexts.check_key f k hs (saw_key f (k ∷ hs) walk.check_key m w) r
+  nexts_keep _ _ _ m (Nexts.look_key f hs w r) = Nexts.look_key f hs (saw_key f hs walk.look_key m w) r
+  nexts_keep _ _ _ m (Nexts.look_back f hs n w r q) = Nexts.look_back f hs n (saw_key f hs (walk.look_back n) m w) r q
+  nexts_keep _ _ _ m (Nexts.take_down f hs ds n y d w r q t u z) = Nexts.take_down f hs ds n y d (saw_keeps f hs ds (walk.take_down n y d) m w) r q t u z
+  nexts_keep _ _ _ m (Nexts.check_down f hs k ds n w r q t) = Nexts.check_down f hs k ds n (saw_keeps f hs (k ∷ ds) (walk.check_down n) m w) r q t
+  nexts_keep _ _ _ m (Nexts.look_down f hs k ds n w r q t) = Nexts.look_down f hs k ds n (saw_keeps f hs (k ∷ ds) (walk.look_down n) m w) r q t
+  nexts_keep _ _ _ m (Nexts.scans b f hs ds n l a r w x y s z) = Nexts.scans b f hs ds n l a r (saw_keeps f hs ds (walk.scan n l r) m w) x y (says_keep a r s) z
 
   aims_keep : (k : Stage) → Aims N Key σ g o k → Aims N Key τ h o k
   aims_keep _ (Aims.at y d r) = Aims.at y d (reads_keeps y r)

@@ -1,5 +1,5 @@
 -- The history of a run tells its calls, its epoch and its seats.
-use Rattle.std.proofs.Common.{◌≡◌, ℕ, suc, ◌≤◌, Bool, true, false, cond, eqb, List, [], ◌∷◌, Some, sym, refl, ap, ◌∙◌, subst, arith}
+use Rattle.std.proofs.Common.{◌≡◌, ℕ, suc, ◌≤◌, Bool, true, false, cond, eqb, List, [], ◌∷◌, length, Some, sym, refl, ap, ◌∙◌, subst, arith}
 use native.Mathlib.Decide.{dec_le}
 use Rattle.std.proofs.lemmas.Bool.{eqb-true, eqb-false}
 use Rattle.terms.specs.Limits.{seat_count, call_limit}
@@ -34,8 +34,8 @@ module _ {K : Type 0} (accepts : K → Type 0) (bytes : K → List ℕ) where
       by true e = subst (λ (y : Seat). Agrees accepts bytes v y) (sym (ap τ.seats (eqb-true s u e) ∙ t.there)) (a (eqb-true s u e))
       by false e = subst (λ (y : Seat). Agrees accepts bytes w y) (sym (t.elsewhere s (eqb-false s u e))) b
 
-  went : (o u : Operation) (r : Outcome) (t : Task) (k : K) (e n : ℕ) → Asks accepts bytes t k e n (busy o) → Kept o (busy u) r → Agrees accepts bytes (stepped r (asked t k e n)) (busy u)
-  went o u go t k e n a p =
+  went : (o u : Operation) (r : Outcome) (t : Task) (k : K) (b e n : ℕ) → Asks accepts bytes t k e n (busy o) → Kept o (busy u) r → Agrees accepts bytes (stepped r (asked t k b e n)) (busy u)
+  went o u go t k b e n a p =
       let q : o ≡ a.operation = cc a.seat in
       record {
         operation = u;
@@ -46,7 +46,7 @@ module _ {K : Type 0} (accepts : K → Type 0) (bytes : K → List ℕ) where
         begun = p.0.begun ∙ ap (λ (x : Operation). x.begun) q ∙ a.begun;
         restarts = p.1 ∙ ap (λ (x : Operation). x.restarts) q ∙ a.restarts;
       }
-  went o u (again c x d) t k e n a p =
+  went o u (again c x d) t k b e n a p =
       let q : o ≡ a.operation = cc a.seat in
       record {
         operation = u;
@@ -57,7 +57,7 @@ module _ {K : Type 0} (accepts : K → Type 0) (bytes : K → List ℕ) where
         begun = p.0.begun ∙ ap (λ (x : Operation). x.begun) q ∙ a.begun;
         restarts = p.1.0 ∙ ap suc (ap (λ (x : Operation). x.restarts) q ∙ a.restarts);
       }
-  went o u (answers b) t k e n a p = absurd p.1
+  went o u (answers c) t k b e n a p = absurd p.1
 
   answered : (w : Told K) (r : Outcome) (b : Answer) → r ≡ answers b → Agrees accepts bytes (stepped r w) idle
   answered w r b e = subst (λ (x : Outcome). Agrees accepts bytes (stepped x w) idle) (sym e) refl
@@ -66,9 +66,9 @@ module _ {K : Type 0} (accepts : K → Type 0) (bytes : K → List ℕ) where
   step_agrees : (w : Told K) (o : Operation) (y z : Seat) (r : Outcome) → y ≡ busy o → Agrees accepts bytes w y → Kept o z r → Agrees accepts bytes (stepped r w) z
   step_agrees shut o y z r q a p = not_closed (sym a ∙ q)
   step_agrees free o y z r q a p = not_idle (sym a ∙ q)
-  step_agrees (asked t k e n) o y closed r q a p = absurd p
-  step_agrees (asked t k e n) o y idle r q a p = answered (asked t k e n) r p.0 p.1
-  step_agrees (asked t k e n) o y (busy u) r q a p = went o u r t k e n (subst (λ (x : Seat). Asks accepts bytes t k e n x) q a) p
+  step_agrees (asked t k b e n) o y closed r q a p = absurd p
+  step_agrees (asked t k b e n) o y idle r q a p = answered (asked t k b e n) r p.0 p.1
+  step_agrees (asked t k b e n) o y (busy u) r q a p = went o u r t k b e n (subst (λ (x : Seat). Asks accepts bytes t k e n x) q a) p
 
   -- a call on the seat u leaves those outside closed
   beyond : (σ τ : State) (u s : ℕ) (z : Seat) → Turns σ τ u z → (seat_count ≤ u → ⊥) → seat_count ≤ s → σ.seats s ≡ closed → τ.seats s ≡ closed
@@ -81,7 +81,7 @@ module _ {K : Type 0} (accepts : K → Type 0) (bytes : K → List ℕ) where
 
     -- a call on the seat u that was accepted
     on_seat : (c : Call K) (r : Reply) (u : ℕ) (z : Seat) → seat_of c ≡ Some u → Accepted accepts σ c → ((n : ℕ) → plus_call r n ≡ suc n) → ((n : ℕ) → plus_sweep r n ≡ n) → Turns σ τ u z
-        → ((s : ℕ) → Agrees accepts bytes (turned c r (sweeps_of h) s (told h s)) (τ.seats s)) → Tells accepts bytes (record { call = c; reply = r } ∷ h) τ
+        → ((s : ℕ) → Agrees accepts bytes (turned c r (length h) (sweeps_of h) s (told h s)) (τ.seats s)) → Tells accepts bytes (record { call = c; reply = r } ∷ h) τ
     on_seat c r u z n a i j w g = record {
       calls = w.calls ∙ ap suc t.calls ∙ sym (i (accepted h));
       limit = subst (λ (x : ℕ). x ≤ call_limit) (sym (i (accepted h))) (room c a);
@@ -110,7 +110,7 @@ module _ {K : Type 0} (accepts : K → Type 0) (bytes : K → List ℕ) where
     did_tells N c r (Did.opens u a w k) = on_seat (Call.open_seat u) ok u idle refl a (λ _. refl) (λ _. refl) w (λ s. at_seat σ τ s u free (told h s) idle w (λ _. refl) (t.seats s))
     did_tells N c r (Did.closes u a w k) = on_seat (Call.close_seat u) ok u closed refl a (λ _. refl) (λ _. refl) w (λ s. at_seat σ τ s u shut (told h s) closed w (λ _. refl) (t.seats s))
     did_tells N c r (Did.begins u b x a g w k) = on_seat (Call.begin u b x) ok u (started b (bytes x) σ.epoch) refl a (λ _. refl) (λ _. refl) w
-        (λ s. at_seat σ τ s u (asked b x (sweeps_of h) 0) (told h s) (started b (bytes x) σ.epoch) w (λ _. record {
+        (λ s. at_seat σ τ s u (asked b x (length h) (sweeps_of h) 0) (told h s) (started b (bytes x) σ.epoch) w (λ _. record {
           operation = _;
           seat = refl;
           accepted = g;
@@ -126,6 +126,7 @@ module _ {K : Type 0} (accepts : K → Type 0) (bytes : K → List ℕ) where
   new_tells : (N : Numbers) (σ : State) → New N σ → Tells accepts bytes [] σ
   new_tells N σ n = record { calls = n.calls; limit = omega arith; epoch = n.epoch; seats = n.seats; outside = λ s l. n.seats s }
 
-  pub histories_tell_lem : HistoriesTell accepts bytes
-  histories_tell_lem N σ (Run.made n) = new_tells N σ n
-  histories_tell_lem N τ (Run.on {σ = σ} r e d) = did_tells σ τ (history r) (histories_tell_lem N σ r) N e.call e.reply d
+  -- whatever more is asked of a just made index
+  pub histories_tell_lem : (Made : Numbers → State → Type 0) → ((N : Numbers) (σ : State) → Made N σ → New N σ) → HistoriesTell Made accepts bytes
+  histories_tell_lem Made f N σ (Run.made n) = new_tells N σ (f N σ n)
+  histories_tell_lem Made f N τ (Run.on {σ = σ} r e d) = did_tells σ τ (history r) (histories_tell_lem Made f N σ r) N e.call e.reply d

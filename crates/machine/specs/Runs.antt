@@ -1,4 +1,4 @@
--- Runs from a just made index, and what is told by their history.
+-- Just made indexes, and the runs from such as these.
 use Rattle.std.specs.Prelude.{◌≡◌, ℕ, zero, suc, List, [], ◌∷◌, None, ◌≢◌}
 use Rattle.latches.specs.Rules.{fresh}
 use Rattle.model.specs.Refs.{Kind, four, sixteen, forty_eight, whole, room, Ref, leaf, node, root, pool}
@@ -37,11 +37,12 @@ pub record Event (K : Type 0) : Type 0 where
   pub call : Call K
   pub reply : Reply
 
-pub data Run {K : Type 0} (N : Numbers) (accepts : K → Type 0) (bytes : K → List ℕ) : State → Type 0 where
-  made : {σ : State} → New N σ → Run N accepts bytes σ
-  on : {σ τ : State} → Run N accepts bytes σ → (e : Event K) → Did N accepts bytes σ τ e.call e.reply → Run N accepts bytes τ
+-- runs from an index that is Made
+pub data Run {K : Type 0} (Made : State → Type 0) (N : Numbers) (accepts : K → Type 0) (bytes : K → List ℕ) : State → Type 0 where
+  made : {σ : State} → Made σ → Run Made N accepts bytes σ
+  on : {σ τ : State} → Run Made N accepts bytes σ → (e : Event K) → Did N accepts bytes σ τ e.call e.reply → Run Made N accepts bytes τ
 
 -- the events of a run, the newest first
-abbrev pub history : {K : Type 0} {N : Numbers} {accepts : K → Type 0} {bytes : K → List ℕ} {σ : State} → Run N accepts bytes σ → List (Event K)
+abbrev pub history : {K : Type 0} {Made : State → Type 0} {N : Numbers} {accepts : K → Type 0} {bytes : K → List ℕ} {σ : State} → Run Made N accepts bytes σ → List (Event K)
 history (Run.made n) = []
 history (Run.on r e d) = e ∷ history r

@@ -1,5 +1,5 @@
 -- What the history of a run tells of calls, epoch and seats.
-use Rattle.std.specs.Prelude.{◌≡◌, ℕ, suc, ◌≤◌, cond, List, [], ◌∷◌, ◌==◌}
+use Rattle.std.specs.Prelude.{◌≡◌, ℕ, suc, ◌≤◌, cond, List, [], ◌∷◌, length, ◌==◌}
 use Rattle.terms.specs.Limits.{seat_count, call_limit}
 use Rattle.model.specs.Operations.{Task, Operation, Seat, closed, idle, busy, Outcome, go, again, answers}
 use Rattle.machine.specs.State.{State, Numbers}
@@ -28,28 +28,29 @@ abbrev pub sweeps_of : {K : Type 0} → List (Event K) → ℕ
 sweeps_of [] = 0
 sweeps_of (e ∷ h) = plus_sweep e.reply (sweeps_of h)
 
--- a seat is closed, idle, or busy with what it was asked, how many sweeps came before, and how often it started again
+-- a seat is closed, idle, or busy with what it was asked, how many calls and how many sweeps came before, and how often
+-- it started again
 pub data Told (K : Type 0) : Type 0 where
   shut free : Told K
-  asked : Task → K → ℕ → ℕ → Told K
+  asked : Task → K → ℕ → ℕ → ℕ → Told K
 
 abbrev pub again_asked : {K : Type 0} → Told K → Told K
 again_asked shut = shut
 again_asked free = free
-again_asked (asked t k e n) = asked t k e (suc n)
+again_asked (asked t k b e n) = asked t k b e (suc n)
 
 abbrev pub stepped : {K : Type 0} → Outcome → Told K → Told K
 stepped go w = w
 stepped (again c x d) w = again_asked w
 stepped (answers a) w = free
 
--- what a call makes of the seat s that was w, with e sweeps before
-abbrev pub done : {K : Type 0} → Call K → ℕ → ℕ → Told K → Told K
-done (Call.open_seat u) e s w = cond (s == u) free w
-done (Call.close_seat u) e s w = cond (s == u) shut w
-done (Call.step u) e s w = w
-done (Call.begin u t k) e s w = cond (s == u) (asked t k e 0) w
-done Call.sweep e s w = w
+-- what a call makes of the seat s that was w, with b calls and e sweeps before
+abbrev pub done : {K : Type 0} → Call K → ℕ → ℕ → ℕ → Told K → Told K
+done (Call.open_seat u) b e s w = cond (s == u) free w
+done (Call.close_seat u) b e s w = cond (s == u) shut w
+done (Call.step u) b e s w = w
+done (Call.begin u t k) b e s w = cond (s == u) (asked t k b e 0) w
+done Call.sweep b e s w = w
 
 abbrev pub moved : {K : Type 0} → Call K → Outcome → ℕ → Told K → Told K
 moved (Call.open_seat u) r s w = w
@@ -58,15 +59,15 @@ moved (Call.step u) r s w = cond (s == u) (stepped r w) w
 moved (Call.begin u t k) r s w = w
 moved Call.sweep r s w = w
 
-abbrev pub turned : {K : Type 0} → Call K → Reply → ℕ → ℕ → Told K → Told K
-turned c ok e s w = done c e s w
-turned c (came r) e s w = moved c r s w
-turned c (swept n) e s w = w
-turned c (refused f) e s w = w
+abbrev pub turned : {K : Type 0} → Call K → Reply → ℕ → ℕ → ℕ → Told K → Told K
+turned c ok b e s w = done c b e s w
+turned c (came r) b e s w = moved c r s w
+turned c (swept n) b e s w = w
+turned c (refused f) b e s w = w
 
 abbrev pub told : {K : Type 0} → List (Event K) → ℕ → Told K
 told [] s = shut
-told (e ∷ h) s = turned e.call e.reply (sweeps_of h) s (told h s)
+told (e ∷ h) s = turned e.call e.reply (length h) (sweeps_of h) s (told h s)
 
 -- a seat with the operation that it was asked for
 pub record Asks {K : Type 0} (accepts : K → Type 0) (bytes : K → List ℕ) (t : Task) (k : K) (e n : ℕ) (z : Seat) : Type 0 where
@@ -81,7 +82,7 @@ pub record Asks {K : Type 0} (accepts : K → Type 0) (bytes : K → List ℕ) (
 abbrev pub Agrees : {K : Type 0} → (K → Type 0) → (K → List ℕ) → Told K → Seat → Type 0
 Agrees accepts bytes shut z = z ≡ closed
 Agrees accepts bytes free z = z ≡ idle
-Agrees accepts bytes (asked t k e n) z = Asks accepts bytes t k e n z
+Agrees accepts bytes (asked t k b e n) z = Asks accepts bytes t k e n z
 
 pub record Tells {K : Type 0} (accepts : K → Type 0) (bytes : K → List ℕ) (h : List (Event K)) (σ : State) : Type 0 where
   pub calls : σ.calls ≡ accepted h
@@ -90,5 +91,5 @@ pub record Tells {K : Type 0} (accepts : K → Type 0) (bytes : K → List ℕ) 
   pub seats : (s : ℕ) → Agrees accepts bytes (told h s) (σ.seats s)
   pub outside : (s : ℕ) → seat_count ≤ s → σ.seats s ≡ closed
 
-abbrev pub HistoriesTell : {K : Type 0} → (K → Type 0) → (K → List ℕ) → Type 0
-HistoriesTell accepts bytes = (N : Numbers) (σ : State) (r : Run N accepts bytes σ) → Tells accepts bytes (history r) σ
+abbrev pub HistoriesTell : {K : Type 0} → (Numbers → State → Type 0) → (K → Type 0) → (K → List ℕ) → Type 0
+HistoriesTell Made accepts bytes = (N : Numbers) (σ : State) (r : Run (Made N) N accepts bytes σ) → Tells accepts bytes (history r) σ

@@ -3,6 +3,7 @@
 #![tactic(auto)]
 
 ghost use Rattle.machine.specs.Kept.{StepsKeep};
+ghost use Rattle.machine.specs.Runs.{New};
 ghost use Rattle.machine.specs.Told.{HistoriesTell};
 
 use keys::Coding;
@@ -14,7 +15,7 @@ pub fn steps_keep()
 {}
 
 /// The history of a run tells how many calls were accepted, the epoch, and what each seat is: closed, idle, or busy with
-/// what it was asked.
+/// what it was asked, and how many calls came before its begin.
 pub fn histories_tell<C: Coding>()
-    ensures { HistoriesTell C.accepts C.bytes }
+    ensures { HistoriesTell New C.accepts C.bytes }
 {}

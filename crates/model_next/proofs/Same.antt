@@ -4,7 +4,7 @@ use Rattle.model.specs.Refs.{Ref}
 use Rattle.model.specs.Tree.{Tree, child, prefix}
 use Rattle.model.specs.Refs.Ref.{leaf, node}
 use Rattle.model_next.specs.Bytes.{comes, Compared, larger, smaller, ended, same, against}
-use Rattle.model_next.specs.Look.{Sight, stale, back, got, least, picked, smallest, past, under, keyed, key_sight, back_sight, down_sight, Hold}
+use Rattle.model_next.specs.Look.{Sight, stale, back, got, least, picked, smallest, past, under, keyed, key_sight, back_sight, down_sight, Held}
 use Rattle.model_next.specs.Walk.{Stays}
 
 module _ (k : List ℕ) (S S' : Tree) (x : Ref) (p : prefix S' x ≡ prefix S x) (c : child S' x ≡ child S x)
@@ -40,12 +40,12 @@ module _ (k : List ℕ) (S S' : Tree) (x : Ref) (p : prefix S' x ≡ prefix S x)
       ap₂ (λ (u : List ℕ) (f : ℕ → Option Ref). cond (leb deep (d + length u)) stale (picked (least f 0 256) (suc (d + length u)) stale)) p c
 
 -- what others must leave alone while a permit stays sound
-pub stays : (deep : ℕ) (k : List ℕ) (S S' : Tree) (Ok Ok' : Hold → Type 0) (h : Hold) → (Ok' h → Ok h)
-    → (Ok' h → (prefix S' h.ref ≡ prefix S h.ref) × (child S' h.ref ≡ child S h.ref) × ((b i : ℕ) → child S h.ref b ≡ Some (leaf i) → (S'.entries i).key ≡ (S.entries i).key))
-    → Stays deep k S S' Ok Ok' h
-stays deep k S S' Ok Ok' h w r = record {
+pub stays : {H : Type 0} (V : Held H) (deep : ℕ) (k : List ℕ) (S S' : Tree) (Ok Ok' : H → Type 0) (h : H) → (Ok' h → Ok h)
+    → (Ok' h → (prefix S' (V.at h) ≡ prefix S (V.at h)) × (child S' (V.at h) ≡ child S (V.at h)) × ((b i : ℕ) → child S (V.at h) b ≡ Some (leaf i) → (S'.entries i).key ≡ (S.entries i).key))
+    → Stays V deep k S S' Ok Ok' h
+stays V deep k S S' Ok Ok' h w r = record {
   was = w;
-  key = λ o. let q = r o in key_same k S S' h.ref q.0 q.1 q.2 deep h.depth;
-  back = λ o b. let q = r o in back_same k S S' h.ref q.0 q.1 q.2 deep h.depth b;
-  down = λ o. let q = r o in down_same k S S' h.ref q.0 q.1 q.2 deep h.depth;
+  key = λ o. let q = r o in key_same k S S' (V.at h) q.0 q.1 q.2 deep (V.depth h);
+  back = λ o b. let q = r o in back_same k S S' (V.at h) q.0 q.1 q.2 deep (V.depth h) b;
+  down = λ o. let q = r o in down_same k S S' (V.at h) q.0 q.1 q.2 deep (V.depth h);
 }

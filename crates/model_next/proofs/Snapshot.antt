@@ -8,9 +8,9 @@ use Rattle.model.specs.Tree.{Tree, child, prefix, Ghost, Linked, TreeOk, Holds}
 use Rattle.model.specs.Refs.Ref.{leaf, node}
 use Rattle.keys.specs.Bytes.{First}
 use Rattle.model_next.specs.Bytes.{Compared, larger, smaller, ended, same, against}
-use Rattle.model_next.specs.Look.{Sight, stale, back, onward, aside, got, smallest, past, picks, picked, keyed, key_sight, back_sight, down_sight, Hold, taken, Saw, SawDown, Led}
+use Rattle.model_next.specs.Look.{Sight, stale, back, onward, aside, got, smallest, past, picks, picked, keyed, key_sight, back_sight, down_sight, Held, taken, Saw, SawDown, Led}
 use Rattle.model_next.specs.Next.{NextOf, pair_of, Past, Trail, SoundNow, Snapshot}
-use Rattle.model_next.specs.Walk.{take_key, take_down, look_key, look_back, look_down, on, newest, place, hold, Links, DownLinks, Seen}
+use Rattle.model_next.specs.Walk.{take_key, take_down, look_key, look_back, look_down, on, newest, place, Links, DownLinks, Seen}
 use Rattle.model_next.specs.Laws.{Best}
 use Rattle.model.proofs.Bytes.{none_some, ≼_app, ≼_trans, ≼_or, snoc_len}
 use Rattle.model.proofs.Reach
@@ -90,25 +90,25 @@ module _ {deep : ℕ} {Key : List ℕ → Type 0} {flux : Ref → Type 0} {S : T
             (cases_order w.byte c);
       }
 
-  module _ (Ok : Hold → Type 0) where
+  module _ {H : Type 0} (V : Held H) (Ok : H → Type 0) where
     -- the way down leads to the smallest leaf
-    down : (h : Hold) (hs : List Hold) (i : ℕ) → IsNode h.ref → Linked G h.ref → SawDown deep S Ok h hs (got i) → Ok h → AllByRecursion Ok hs → Best S G (G.path h.ref) i
+    down : (h : H) (hs : List H) (i : ℕ) → IsNode (V.at h) → Linked G (V.at h) → SawDown V deep S Ok h hs (got i) → Ok h → AllByRecursion Ok hs → Best S G (G.path (V.at h)) i
     down h [] i n l saw o os =
-        let v = down_view deep S h.ref h.depth (got i) (saw o) (λ e. let z : ◌≡◌ {A = ℕ} 0 1 = cc e in omega arith) in
-        let s = smallest_some S h.ref v.0 v.1 v.2 in
+        let v = down_view deep S (V.at h) (V.depth h) (got i) (saw o) (λ e. let z : ◌≡◌ {A = ℕ} 0 1 = cc e in omega arith) in
+        let s = smallest_some S (V.at h) v.0 v.1 v.2 in
         let e : v.1 ≡ leaf i = picks_got v.1 _ i v.3 in
-        min h.ref v.1 v.0 i n l v.2
-        (subst (λ (y : Ref). Best S G (G.path y) i) (sym e) (leaf_best i (subst (Linked G) e (t.kid h.ref v.0 v.1 l s.0).0)))
+        min (V.at h) v.1 v.0 i n l v.2
+        (subst (λ (y : Ref). Best S G (G.path y) i) (sym e) (leaf_best i (subst (Linked G) e (t.kid (V.at h) v.0 v.1 l s.0).0)))
     down h (g ∷ hs) i n l saw o os =
-        let v = down_view deep S h.ref h.depth (aside g.ref g.depth) (saw.0 o) (λ e. let z : ◌≡◌ {A = ℕ} 0 1 = cc e in omega arith) in
-        let s = smallest_some S h.ref v.0 v.1 v.2 in
-        let e = picks_aside v.1 _ g.ref g.depth v.3 in
-        min h.ref v.1 v.0 i n l v.2
+        let v = down_view deep S (V.at h) (V.depth h) (aside (V.at g) (V.depth g)) (saw.0 o) (λ e. let z : ◌≡◌ {A = ℕ} 0 1 = cc e in omega arith) in
+        let s = smallest_some S (V.at h) v.0 v.1 v.2 in
+        let e = picks_aside v.1 _ (V.at g) (V.depth g) v.3 in
+        min (V.at h) v.1 v.0 i n l v.2
         (subst (λ (y : Ref). Best S G (G.path y) i) (sym e.0)
-        (down g hs i e.1 (subst (Linked G) e.0 (t.kid h.ref v.0 v.1 l s.0).0) saw.1 os.0 os.1))
+        (down g hs i e.1 (subst (Linked G) e.0 (t.kid (V.at h) v.0 v.1 l s.0).0) saw.1 os.0 os.1))
 
     -- a child picked leads to its smallest leaf
-    led : (y : Ref) (e : ℕ) (s : Sight) (hs : List Hold) (r : Option ℕ) → Linked G y → picks y e ≡ s → Led deep S Ok s hs r → AllByRecursion Ok hs → (i : ℕ) × (r ≡ Some i) × Best S G (G.path y) i
+    led : (y : Ref) (e : ℕ) (s : Sight) (hs : List H) (r : Option ℕ) → Linked G y → picks y e ≡ s → Led V deep S Ok s hs r → AllByRecursion Ok hs → (i : ℕ) × (r ≡ Some i) × Best S G (G.path y) i
     led (leaf j) e s [] None l p q os = let z : ◌≡◌ {A = ℕ} 0 1 = cc (p, q) in absurd (omega arith)
     led (leaf j) e s [] (Some i) l p q os = let m : j ≡ i = cc (p, q) in (j, ap Some (sym m), leaf_best j l)
     led (leaf j) e s (h ∷ hs) None l p q os = absurd q
@@ -117,22 +117,22 @@ module _ {deep : ℕ} {Key : List ℕ → Type 0} {flux : Ref → Type 0} {S : T
     led (node c j) e s [] (Some i) l p q os = let z : ◌≡◌ {A = ℕ} 0 1 = cc (p, q) in absurd (omega arith)
     led (node c j) e s (h ∷ hs) None l p q os = absurd q
     led (node c j) e s (h ∷ hs) (Some i) l p q os =
-        let m : node c j ≡ h.ref = cc (p, q.0) in
+        let m : node c j ≡ V.at h = cc (p, q.0) in
         (i, refl, subst (λ (y : Ref). Best S G (G.path y) i) (sym m) (down h hs i (subst IsNode m tt) (subst (Linked G) m l) q.1 os.0 os.1))
 
-    led_back : (s : Sight) (hs : List Hold) (r : Option ℕ) → s ≡ back → Led deep S Ok s hs r → r ≡ None
+    led_back : (s : Sight) (hs : List H) (r : Option ℕ) → s ≡ back → Led V deep S Ok s hs r → r ≡ None
     led_back s [] None e q = refl
     led_back s [] (Some i) e q = let z : ◌≡◌ {A = ℕ} 0 1 = cc (e, q) in absurd (omega arith)
     led_back s (h ∷ hs) None e q = refl
     led_back s (h ∷ hs) (Some i) e q = let z : ◌≡◌ {A = ℕ} 0 1 = cc (e, q.0) in absurd (omega arith)
 
-    never_onward : (s : Sight) (y : Ref) (d : ℕ) (hs : List Hold) (r : Option ℕ) → s ≡ onward y d → Led deep S Ok s hs r → ⊥
+    never_onward : (s : Sight) (y : Ref) (d : ℕ) (hs : List H) (r : Option ℕ) → s ≡ onward y d → Led V deep S Ok s hs r → ⊥
     never_onward s y d [] None e q = let z : ◌≡◌ {A = ℕ} 0 1 = cc (e, q) in omega arith
     never_onward s y d [] (Some i) e q = let z : ◌≡◌ {A = ℕ} 0 1 = cc (e, q) in omega arith
     never_onward s y d (h ∷ hs) None e q = q
     never_onward s y d (h ∷ hs) (Some i) e q = let z : ◌≡◌ {A = ℕ} 0 1 = cc (e, q.0) in omega arith
 
-    never_stale : (s : Sight) (hs : List Hold) (r : Option ℕ) → Led deep S Ok s hs r → s ≡ stale → ⊥
+    never_stale : (s : Sight) (hs : List H) (r : Option ℕ) → Led V deep S Ok s hs r → s ≡ stale → ⊥
     never_stale s [] None q e = let z : ◌≡◌ {A = ℕ} 0 1 = cc (e, q) in omega arith
     never_stale s [] (Some i) q e = let z : ◌≡◌ {A = ℕ} 0 1 = cc (e, q) in omega arith
     never_stale s (h ∷ hs) None q e = q
@@ -165,8 +165,8 @@ module _ {deep : ℕ} {Key : List ℕ → Type 0} {flux : Ref → Type 0} {S : T
       }
 
       -- nothing under the key's byte counts: the smallest child past it has the answer
-      beyond : (x : Ref) (b e : ℕ) (s : Sight) (hs : List Hold) (r : Option ℕ) (o : Option (ℕ × Ref)) → IsNode x → Linked G x → G.full x ++ b ∷ [] ≼ k
-          → Answer S G k (G.full x ++ b ∷ []) None → past S x b ≡ o → picked o e back ≡ s → Led deep S Ok s hs r → AllByRecursion Ok hs → Answer S G k (G.path x) r
+      beyond : (x : Ref) (b e : ℕ) (s : Sight) (hs : List H) (r : Option ℕ) (o : Option (ℕ × Ref)) → IsNode x → Linked G x → G.full x ++ b ∷ [] ≼ k
+          → Answer S G k (G.full x ++ b ∷ []) None → past S x b ≡ o → picked o e back ≡ s → Led V deep S Ok s hs r → AllByRecursion Ok hs → Answer S G k (G.path x) r
       beyond x b e s hs r None n l hk low p q d os =
           subst (Answer S G k (G.path x)) (sym (led_back s hs r (sym q) d)) (λ j lj h.
           let w = way x j n l lj h in
@@ -204,26 +204,29 @@ module _ {deep : ℕ} {Key : List ℕ → Type 0} {flux : Ref → Type 0} {S : T
           subst (Answer S G k (G.path x)) (sym a.1) fit
 
       -- a node on the key's way, where the key's place in it is told by the depth
-      record OnKey (h : Hold) : Type 0 where
-        is_node : IsNode h.ref
-        linked : Linked G h.ref
-        begins : G.path h.ref ≼ k
-        depth : h.depth ≡ length (G.path h.ref)
-        whole : G.path h.ref ++ prefix S h.ref ≡ G.full h.ref
+      record KeyWay (x : Ref) (d : ℕ) : Type 0 where
+        is_node : IsNode x
+        linked : Linked G x
+        begins : G.path x ≼ k
+        depth : d ≡ length (G.path x)
+        whole : G.path x ++ prefix S x ≡ G.full x
+
+      abbrev OnKey : H → Type 0
+      OnKey h = KeyWay (V.at h) (V.depth h)
 
       -- an equal prefix: the key goes on in x with the byte b
-      at_byte : (h : Hold) (b : ℕ) → OnKey h → against (prefix S h.ref) (drop h.depth k) ≡ same b → G.full h.ref ++ b ∷ [] ≼ k
-      at_byte h b o a =
-          let p : G.path h.ref ++ (prefix S h.ref ++ b ∷ []) ≼ k = drop_begins (G.path h.ref) (prefix S h.ref ++ b ∷ []) k o.begins
-          (same_begins (prefix S h.ref) (drop (length (G.path h.ref)) k) b (subst (λ (d : ℕ). against (prefix S h.ref) (drop d k) ≡ same b) o.depth a)) in
-          subst (λ (u : List ℕ). u ++ b ∷ [] ≼ k) o.whole (subst (λ (u : List ℕ). u ≼ k) (sym (mathlib.Core.List.append_assoc (G.path h.ref) (prefix S h.ref) (b ∷ []))) p)
+      at_byte : (x : Ref) (d b : ℕ) → KeyWay x d → against (prefix S x) (drop d k) ≡ same b → G.full x ++ b ∷ [] ≼ k
+      at_byte x d b o a =
+          let p : G.path x ++ (prefix S x ++ b ∷ []) ≼ k = drop_begins (G.path x) (prefix S x ++ b ∷ []) k o.begins
+          (same_begins (prefix S x) (drop (length (G.path x)) k) b (subst (λ (n : ℕ). against (prefix S x) (drop n k) ≡ same b) o.depth a)) in
+          subst (λ (u : List ℕ). u ++ b ∷ [] ≼ k) o.whole (subst (λ (u : List ℕ). u ≼ k) (sym (mathlib.Core.List.append_assoc (G.path x) (prefix S x) (b ∷ []))) p)
 
       -- a held key under x begins with the prefix behind the path
-      in_prefix : (h : Hold) (j : ℕ) → OnKey h → Linked G (leaf j) → G.path h.ref ≼ (S.entries j).key → prefix S h.ref ≼ drop (length (G.path h.ref)) (S.entries j).key
-      in_prefix h j o lj u =
-          let w = way h.ref j o.is_node o.linked lj u in
-          begins_drop (G.path h.ref) (prefix S h.ref) (S.entries j).key
-          (subst (λ (v : List ℕ). v ≼ (S.entries j).key) (sym o.whole) (≼_trans (G.full h.ref) (G.full h.ref ++ w.byte ∷ []) (S.entries j).key (≼_app (G.full h.ref) (w.byte ∷ [])) w.goes))
+      in_prefix : (x : Ref) (d j : ℕ) → KeyWay x d → Linked G (leaf j) → G.path x ≼ (S.entries j).key → prefix S x ≼ drop (length (G.path x)) (S.entries j).key
+      in_prefix x d j o lj u =
+          let w = way x j o.is_node o.linked lj u in
+          begins_drop (G.path x) (prefix S x) (S.entries j).key
+          (subst (λ (v : List ℕ). v ≼ (S.entries j).key) (sym o.whole) (≼_trans (G.full x) (G.full x ++ w.byte ∷ []) (S.entries j).key (≼_app (G.full x) (w.byte ∷ [])) w.goes))
 
       unfit : (x : Ref) (b : ℕ) (o : Option Ref) → IsNode x → Linked G x → child S x b ≡ o → Unfit S k o → Answer S G k (G.full x ++ b ∷ []) None
       unfit x b None n l e q j lj h =
@@ -236,122 +239,131 @@ module _ {deep : ℕ} {Key : List ℕ → Type 0} {flux : Ref → Type 0} {S : T
       unfit x b (Some (node c i)) n l e q j lj h = absurd q
 
       -- the newest look at the last node of the key's way
-      ends : (h : Hold) (s : Sight) (hs : List Hold) (r : Option ℕ) → OnKey h → KeyView S k h.ref h.depth s → Led deep S Ok s hs r → AllByRecursion Ok hs → Answer S G k (G.path h.ref) r
-      ends h s hs r o (KeyView.above c y a p q) d os =
-          let v = smallest_some S h.ref c y p in
-          let m = led y _ s hs r (t.kid h.ref c y o.linked v.0).0 q d os in
-          subst (Answer S G k (G.path h.ref)) (sym m.1) (over h.ref m.0
-          (λ j lj u. first_behind (G.path h.ref) k (S.entries j).key o.begins u
-          (larger_first (prefix S h.ref) (drop (length (G.path h.ref)) k) (drop (length (G.path h.ref)) (S.entries j).key)
-          (subst (λ (n : ℕ). against (prefix S h.ref) (drop n k) ≡ larger) o.depth a) (in_prefix h j o lj u)))
-          (min h.ref y c m.0 o.is_node o.linked p m.2))
-      ends h s hs r o (KeyView.lower a e) d os =
-          subst (Answer S G k (G.path h.ref)) (sym (led_back s hs r e d)) (λ j lj u.
-          first_behind (G.path h.ref) (S.entries j).key k u o.begins
-          (smaller_first (prefix S h.ref) (drop (length (G.path h.ref)) k) (drop (length (G.path h.ref)) (S.entries j).key)
-          (subst (λ (n : ℕ). against (prefix S h.ref) (drop n k) ≡ smaller) o.depth a) (in_prefix h j o lj u)))
-      ends h s hs r o (KeyView.beside b a q p) d os =
-          beyond h.ref b _ s hs r (past S h.ref b) o.is_node o.linked (at_byte h b o a) (unfit h.ref b (child S h.ref b) o.is_node o.linked refl q) refl p d os
-      ends h s hs r o (KeyView.at b i a e f q) d os =
-          let g = t.kid h.ref b (leaf i) o.linked e in
-          let m = led (leaf i) 0 s hs r g.0 (sym q) d os in
+      ends : (x : Ref) (d : ℕ) (s : Sight) (hs : List H) (r : Option ℕ) → KeyWay x d → KeyView S k x d s → Led V deep S Ok s hs r → AllByRecursion Ok hs → Answer S G k (G.path x) r
+      ends x d s hs r o (KeyView.above c y a p q) w os =
+          let v = smallest_some S x c y p in
+          let m = led y _ s hs r (t.kid x c y o.linked v.0).0 q w os in
+          subst (Answer S G k (G.path x)) (sym m.1) (over x m.0
+          (λ j lj u. first_behind (G.path x) k (S.entries j).key o.begins u
+          (larger_first (prefix S x) (drop (length (G.path x)) k) (drop (length (G.path x)) (S.entries j).key)
+          (subst (λ (n : ℕ). against (prefix S x) (drop n k) ≡ larger) o.depth a) (in_prefix x d j o lj u)))
+          (min x y c m.0 o.is_node o.linked p m.2))
+      ends x d s hs r o (KeyView.lower a e) w os =
+          subst (Answer S G k (G.path x)) (sym (led_back s hs r e w)) (λ j lj u.
+          first_behind (G.path x) (S.entries j).key k u o.begins
+          (smaller_first (prefix S x) (drop (length (G.path x)) k) (drop (length (G.path x)) (S.entries j).key)
+          (subst (λ (n : ℕ). against (prefix S x) (drop n k) ≡ smaller) o.depth a) (in_prefix x d j o lj u)))
+      ends x d s hs r o (KeyView.beside b a q p) w os =
+          beyond x b _ s hs r (past S x b) o.is_node o.linked (at_byte x d b o a) (unfit x b (child S x b) o.is_node o.linked refl q) refl p w os
+      ends x d s hs r o (KeyView.at b i a e f q) w os =
+          let g = t.kid x b (leaf i) o.linked e in
+          let m = led (leaf i) 0 s hs r g.0 (sym q) w os in
           let z : m.0 ≡ i = alone i m.0 g.0 m.2.linked m.2.under in
-          let fit : Fit S G k (G.full h.ref ++ b ∷ []) m.0 = record {
+          let fit : Fit S G k (G.full x ++ b ∷ []) m.0 = record {
             linked = m.2.linked;
             under = subst (λ (v : List ℕ). v ≼ (S.entries m.0).key) g.1 m.2.under;
             from = subst (λ (n : ℕ). First (S.entries n).key k → ⊥) (sym z) f;
-            least = λ j lj u nf w. m.2.least j lj (subst (λ (v : List ℕ). v ≼ (S.entries j).key) (sym g.1) u) w;
+            least = λ j lj u nf f. m.2.least j lj (subst (λ (v : List ℕ). v ≼ (S.entries j).key) (sym g.1) u) f;
           } in
-          subst (Answer S G k (G.path h.ref)) (sym m.1) (upto h.ref b m.0 o.is_node o.linked (at_byte h b o a) fit)
-      ends h s hs r o (KeyView.on b y a e n q) d os = absurd (never_onward s y _ hs r q d)
+          subst (Answer S G k (G.path x)) (sym m.1) (upto x b m.0 o.is_node o.linked (at_byte x d b o a) fit)
+      ends x d s hs r o (KeyView.on b y a e n q) w os = absurd (never_onward s y _ hs r q w)
 
       -- the next node on the key's way
-      record Onward (h g : Hold) : Type 0 where
+      record Onward (x y : Ref) (e : ℕ) : Type 0 where
         byte : ℕ
-        is : child S h.ref byte ≡ Some g.ref
-        goes : G.full h.ref ++ byte ∷ [] ≼ k
-        path : G.path g.ref ≡ G.full h.ref ++ byte ∷ []
-        is_node : IsNode g.ref
-        linked : Linked G g.ref
-        depth : g.depth ≡ suc (length (G.full h.ref))
+        is : child S x byte ≡ Some y
+        goes : G.full x ++ byte ∷ [] ≼ k
+        path : G.path y ≡ G.full x ++ byte ∷ []
+        is_node : IsNode y
+        linked : Linked G y
+        depth : e ≡ suc (length (G.full x))
 
-      onwards : (h g : Hold) → OnKey h → KeyView S k h.ref h.depth (onward g.ref g.depth) → Onward h g
-      onwards h g o (KeyView.above c y a p q) = absurd (picks_not y _ g.ref g.depth q)
-      onwards h g o (KeyView.lower a e) = let z : ◌≡◌ {A = ℕ} 0 1 = cc e in absurd (omega arith)
-      onwards h g o (KeyView.beside b a q p) = absurd (picked_not (past S h.ref b) _ g.ref g.depth p)
-      onwards h g o (KeyView.at b i a e f q) = let z : ◌≡◌ {A = ℕ} 0 1 = cc q in absurd (omega arith)
-      onwards h g o (KeyView.on b y a e n q) =
-          let i : y ≡ g.ref = cc q in
-          let j : g.depth ≡ suc (h.depth + length (prefix S h.ref)) = cc q in
-          let f : child S h.ref b ≡ Some g.ref = e ∙ ap Some i in
-          let c = t.kid h.ref b g.ref o.linked f in
+      onward_view : (x : Ref) (d : ℕ) (y : Ref) (e : ℕ) → KeyWay x d → KeyView S k x d (onward y e) → Onward x y e
+      onward_view x d y e o (KeyView.above c z a p q) = absurd (picks_not z _ y e q)
+      onward_view x d y e o (KeyView.lower a q) = let z : ◌≡◌ {A = ℕ} 0 1 = cc q in absurd (omega arith)
+      onward_view x d y e o (KeyView.beside b a q p) = absurd (picked_not (past S x b) _ y e p)
+      onward_view x d y e o (KeyView.at b i a r f q) = let z : ◌≡◌ {A = ℕ} 0 1 = cc q in absurd (omega arith)
+      onward_view x d y e o (KeyView.on b z a r n q) =
+          let i : z ≡ y = cc q in
+          let j : e ≡ suc (d + length (prefix S x)) = cc q in
+          let f : child S x b ≡ Some y = r ∙ ap Some i in
+          let c = t.kid x b y o.linked f in
           record {
             byte = b;
             is = f;
-            goes = at_byte h b o a;
+            goes = at_byte x d b o a;
             path = c.1;
             is_node = subst IsNode i n;
             linked = c.0;
-            depth = omega (arith, j, o.depth, length-append (G.path h.ref) (prefix S h.ref), ap length o.whole);
+            depth = omega (arith, j, o.depth, length-append (G.path x) (prefix S x), ap length o.whole);
           }
 
-      on_key : (h g : Hold) (w : Onward h g) → G.path g.ref ≼ k
-      on_key h g w = subst (λ (v : List ℕ). v ≼ k) (sym w.path) w.goes
+      onward_fresh : (y : Ref) (d : ℕ) → onward y d ≡ stale → ⊥
+      onward_fresh y d e = let z : ◌≡◌ {A = ℕ} 0 1 = cc e in omega arith
 
-      at_depth : (h g : Hold) (w : Onward h g) → g.depth ≡ length (G.path g.ref)
-      at_depth h g w = omega (arith, w.depth, ap length w.path, snoc_len (G.full h.ref) w.byte)
+      onwards : {x y : Ref} {d e : ℕ} → KeyWay x d → key_sight deep S k x d ≡ onward y e → Onward x y e
+      onwards {x = x} {y = y} {d = d} {e = e} o q = onward_view x d y e o (key_view S k x d (onward y e) deep q (onward_fresh y e))
 
-      byte_taken : (h g : Hold) (w : Onward h g) → taken k g ≡ w.byte
-      byte_taken h g w =
-          let e : g.depth - 1 ≡ length (G.full h.ref) = omega (arith, w.depth) in
-          ap (λ (n : ℕ). get_or k n 0) e ∙ byte_at (G.full h.ref) k w.byte w.goes
+      on_key : {x y : Ref} {e : ℕ} → Onward x y e → G.path y ≼ k
+      on_key w = subst (λ (v : List ℕ). v ≼ k) (sym w.path) w.goes
 
-      lifted : (h g : Hold) (n : ℕ) (r : Option ℕ) → OnKey h → Onward h g → Past (suc n) r → Answer S G k (G.path g.ref) r → Answer S G k (G.path h.ref) r
-      lifted h g n None o w p a = absurd (omega (arith, p))
-      lifted h g n (Some i) o w p a = upto h.ref w.byte i o.is_node o.linked w.goes (subst (λ (v : List ℕ). Fit S G k v i) w.path a)
+      at_depth : {x y : Ref} {e : ℕ} → Onward x y e → e ≡ length (G.path y)
+      at_depth {x = x} w = omega (arith, w.depth, ap length w.path, snoc_len (G.full x) w.byte)
+
+      byte_taken : {x : Ref} (g : H) (w : Onward x (V.at g) (V.depth g)) → taken V k g ≡ w.byte
+      byte_taken {x = x} g w =
+          let e : V.depth g - 1 ≡ length (G.full x) = omega (arith, w.depth) in
+          ap (λ (n : ℕ). get_or k n 0) e ∙ byte_at (G.full x) k w.byte w.goes
+
+      lifted : {x y : Ref} {d e : ℕ} (n : ℕ) (r : Option ℕ) → KeyWay x d → Onward x y e → Past (suc n) r → Answer S G k (G.path y) r → Answer S G k (G.path x) r
+      lifted n None o w p a = absurd (omega (arith, p))
+      lifted {x = x} n (Some i) o w p a = upto x w.byte i o.is_node o.linked w.goes (subst (λ (v : List ℕ). Fit S G k v i) w.path a)
 
       past_on : (n : ℕ) (r : Option ℕ) → Past (suc n) r → Past n r
       past_on n None p = absurd (omega (arith, p))
       past_on n (Some i) p = tt
 
-      onward_fresh : (y : Ref) (d : ℕ) → onward y d ≡ stale → ⊥
-      onward_fresh y d e = let z : ◌≡◌ {A = ℕ} 0 1 = cc e in omega arith
-
-      module _ (still : (g : Hold) → Ok g → flux g.ref → ⊥) where
-        stands : (h : Hold) → IsNode h.ref → Linked G h.ref → G.path h.ref ≼ k → h.depth ≡ length (G.path h.ref) → Ok h → OnKey h
+      module _ (still : (g : H) → Ok g → flux (V.at g) → ⊥) where
+        stands : (h : H) → IsNode (V.at h) → Linked G (V.at h) → G.path (V.at h) ≼ k → V.depth h ≡ length (G.path (V.at h)) → Ok h → OnKey h
         stands h n l u d o = record {
           is_node = n;
           linked = l;
           begins = u;
           depth = d;
-          whole = ⊎_elim (λ e. e) (λ x. absurd (still h o x)) (t.split h.ref n l).1;
+          whole = ⊎_elim (λ e. e) (λ x. absurd (still h o x)) (t.split (V.at h) n l).1;
         }
 
+        stands_on : {x : Ref} (g : H) → Onward x (V.at g) (V.depth g) → Ok g → OnKey g
+        stands_on g w o = stands g w.is_node w.linked (on_key w) (at_depth w) o
+
         -- from the newest node on the key's way to the first: the answer among the keys under each
-        answer : (h : Hold) (hs : List Hold) (n : ℕ) (s : Sight) (ds : List Hold) (r : Option ℕ) → OnKey h
-            → Saw deep S k Ok (h ∷ hs) n s → Led deep S Ok s ds r → Past n r → Ok h → AllByRecursion Ok hs → AllByRecursion Ok ds → Answer S G k (G.path h.ref) r
-        answer h [] zero s ds r ok saw d p o os od = ends h s ds r ok (key_view S k h.ref h.depth s deep (saw o) (never_stale s ds r d)) d od
+        answer : (h : H) (hs : List H) (n : ℕ) (s : Sight) (ds : List H) (r : Option ℕ) → OnKey h
+            → Saw V deep S k Ok (h ∷ hs) n s → Led V deep S Ok s ds r → Past n r → Ok h → AllByRecursion Ok hs → AllByRecursion Ok ds → Answer S G k (G.path (V.at h)) r
+        answer h [] zero s ds r ok saw d p o os od = ends (V.at h) (V.depth h) s ds r ok (key_view S k (V.at h) (V.depth h) s deep (saw o) (never_stale s ds r d)) d od
         answer h [] (suc n) s ds r ok saw d p o os od = absurd saw
         answer h (g ∷ hs) zero s ds r ok saw d p o os od =
-            let w = onwards h g ok (key_view S k h.ref h.depth _ deep (saw.0 o) (onward_fresh g.ref g.depth)) in
-            let low : Answer S G k (G.path g.ref) None = answer g hs zero back [] None (stands g w.is_node w.linked (on_key h g w) (at_depth h g w) os.0) saw.1 refl refl os.0 os.1 tt in
-            let v = back_view deep S w.byte h.ref h.depth s (subst (λ (b : ℕ). back_sight deep S b h.ref h.depth ≡ s) (byte_taken h g w) (saw.2 o)) (never_stale s ds r d) in
-            beyond h.ref w.byte _ s ds r (past S h.ref w.byte) ok.is_node ok.linked w.goes (subst (λ (u : List ℕ). Answer S G k u None) w.path low) refl v d od
+            let w = onwards ok (saw.0 o) in
+            let low : Answer S G k (G.path (V.at g)) None = answer g hs zero back [] None (stands_on g w os.0) saw.1 refl refl os.0 os.1 tt in
+            let v = back_view deep S w.byte (V.at h) (V.depth h) s (subst (λ (b : ℕ). back_sight deep S b (V.at h) (V.depth h) ≡ s) (byte_taken g w) (saw.2 o)) (never_stale s ds r d) in
+            beyond (V.at h) w.byte _ s ds r (past S (V.at h) w.byte) ok.is_node ok.linked w.goes (subst (λ (u : List ℕ). Answer S G k u None) w.path low) refl v d od
         answer h (g ∷ hs) (suc n) s ds r ok saw d p o os od =
-            let w = onwards h g ok (key_view S k h.ref h.depth _ deep (saw.0 o) (onward_fresh g.ref g.depth)) in
-            lifted h g n r ok w p (answer g hs n s ds r (stands g w.is_node w.linked (on_key h g w) (at_depth h g w) os.0) saw.1 d (past_on n r p) os.0 os.1 od)
+            let w = onwards ok (saw.0 o) in
+            lifted n r ok w p (answer g hs n s ds r (stands_on g w os.0) saw.1 d (past_on n r p) os.0 os.1 od)
 
-        root_on : (h : Hold) → h.ref ≡ root → h.depth ≡ 0 → Ok h → OnKey h
+        root_on : (h : H) → V.at h ≡ root → V.depth h ≡ 0 → Ok h → OnKey h
         root_on h e d o = stands h (subst IsNode (sym e) tt) (subst (Linked G) (sym e) t.root_linked)
             (subst (λ (u : List ℕ). u ≼ k) (sym (ap G.path e ∙ t.root_path)) tt) (omega (arith, d, ap length (ap G.path e ∙ t.root_path))) o
 
         -- a node on the way down
-        record OnDown (h : Hold) : Type 0 where
-          is_node : IsNode h.ref
-          linked : Linked G h.ref
-          depth : h.depth ≡ length (G.path h.ref)
-          whole : G.path h.ref ++ prefix S h.ref ≡ G.full h.ref
-          inner : h.ref ≡ root → ⊥
+        record DownWay (x : Ref) (d : ℕ) : Type 0 where
+          is_node : IsNode x
+          linked : Linked G x
+          depth : d ≡ length (G.path x)
+          whole : G.path x ++ prefix S x ≡ G.full x
+          inner : x ≡ root → ⊥
+
+        abbrev OnDown : H → Type 0
+        OnDown h = DownWay (V.at h) (V.depth h)
 
         -- a look within the bound of depth
         room : (x : Ref) (d : ℕ) → IsNode x → Linked G x → d ≡ length (G.path x) → G.path x ++ prefix S x ≡ G.full x → leb deep (d + length (prefix S x)) ≡ false
@@ -359,110 +371,105 @@ module _ {deep : ℕ} {Key : List ℕ → Type 0} {flux : Ref → Type 0} {S : T
             let q : d + length (prefix S x) ≡ length (G.full x) = omega (arith, e, length-append (G.path x) (prefix S x), ap length w) in
             lt-leb deep (d + length (prefix S x)) (omega (arith, q, (t.short x n l).0))
 
-        fresh_key : (h : Hold) → Key k → OnKey h → key_sight deep S k h.ref h.depth ≡ stale → ⊥
+        fresh_key : (x : Ref) (d : ℕ) → Key k → KeyWay x d → key_sight deep S k x d ≡ stale → ⊥
         unfolding key_sight
-        fresh_key h key o e =
-            go (against (prefix S h.ref) (drop h.depth k)) refl
-            (subst (λ (b : Bool). cond b stale (keyed S k h.ref (suc (h.depth + length (prefix S h.ref))) (against (prefix S h.ref) (drop h.depth k))) ≡ stale)
-            (room h.ref h.depth o.is_node o.linked o.depth o.whole) e)
+        fresh_key x d key o e =
+            go (against (prefix S x) (drop d k)) refl
+            (subst (λ (b : Bool). cond b stale (keyed S k x (suc (d + length (prefix S x))) (against (prefix S x) (drop d k))) ≡ stale)
+            (room x d o.is_node o.linked o.depth o.whole) e)
           where
-            go : (c : Compared) → against (prefix S h.ref) (drop h.depth k) ≡ c → keyed S k h.ref (suc (h.depth + length (prefix S h.ref))) c ≡ stale → ⊥
-            go larger a q = smallest_fresh (smallest S h.ref) _ (has_smallest S h.ref (t.wide h.ref o.is_node
-                (λ r. nil_not_larger (drop h.depth k) (subst (λ (p : List ℕ). against p (drop h.depth k) ≡ larger) (ap (prefix S) r ∙ t.root_prefix) a)) (inl o.linked))) q
+            go : (c : Compared) → against (prefix S x) (drop d k) ≡ c → keyed S k x (suc (d + length (prefix S x))) c ≡ stale → ⊥
+            go larger a q = smallest_fresh (smallest S x) _ (has_smallest S x (t.wide x o.is_node
+                (λ r. nil_not_larger (drop d k) (subst (λ (p : List ℕ). against p (drop d k) ≡ larger) (ap (prefix S) r ∙ t.root_prefix) a)) (inl o.linked))) q
             go smaller a q = let z : ◌≡◌ {A = ℕ} 0 1 = cc q in omega arith
-            go ended a q = (t.short h.ref o.is_node o.linked).1 k key (subst (λ (u : List ℕ). k ≼ u) o.whole
-                (begins_behind (G.path h.ref) k (prefix S h.ref) o.begins
-                (ended_begins (prefix S h.ref) (drop (length (G.path h.ref)) k) (subst (λ (d : ℕ). against (prefix S h.ref) (drop d k) ≡ ended) o.depth a))))
-            go (same b) a q = under_fresh S k h.ref _ b (child S h.ref b) q
+            go ended a q = (t.short x o.is_node o.linked).1 k key (subst (λ (u : List ℕ). k ≼ u) o.whole
+                (begins_behind (G.path x) k (prefix S x) o.begins
+                (ended_begins (prefix S x) (drop (length (G.path x)) k) (subst (λ (n : ℕ). against (prefix S x) (drop n k) ≡ ended) o.depth a))))
+            go (same b) a q = under_fresh S k x _ b (child S x b) q
 
-        fresh_back : (h : Hold) (b : ℕ) → OnKey h → back_sight deep S b h.ref h.depth ≡ stale → ⊥
+        fresh_back : (x : Ref) (d b : ℕ) → KeyWay x d → back_sight deep S b x d ≡ stale → ⊥
         unfolding back_sight
-        fresh_back h b o e =
-            back_fresh (past S h.ref b) _ (subst (λ (c : Bool). cond c stale (picked (past S h.ref b) (suc (h.depth + length (prefix S h.ref))) back) ≡ stale)
-            (room h.ref h.depth o.is_node o.linked o.depth o.whole) e)
+        fresh_back x d b o e =
+            back_fresh (past S x b) _ (subst (λ (c : Bool). cond c stale (picked (past S x b) (suc (d + length (prefix S x))) back) ≡ stale)
+            (room x d o.is_node o.linked o.depth o.whole) e)
 
-        fresh_down : (h : Hold) → OnDown h → down_sight deep S h.ref h.depth ≡ stale → ⊥
+        fresh_down : (x : Ref) (d : ℕ) → DownWay x d → down_sight deep S x d ≡ stale → ⊥
         unfolding down_sight
-        fresh_down h o e =
-            smallest_fresh (smallest S h.ref) _ (has_smallest S h.ref (t.wide h.ref o.is_node o.inner (inl o.linked)))
-            (subst (λ (c : Bool). cond c stale (picked (smallest S h.ref) (suc (h.depth + length (prefix S h.ref))) stale) ≡ stale)
-            (room h.ref h.depth o.is_node o.linked o.depth o.whole) e)
+        fresh_down x d o e =
+            smallest_fresh (smallest S x) _ (has_smallest S x (t.wide x o.is_node o.inner (inl o.linked)))
+            (subst (λ (c : Bool). cond c stale (picked (smallest S x) (suc (d + length (prefix S x))) stale) ≡ stale)
+            (room x d o.is_node o.linked o.depth o.whole) e)
 
         -- a child picked, on the way down
-        stands_down : (h g : Hold) (c : ℕ) (y : Ref) → Linked G h.ref → h.depth ≡ length (G.path h.ref) → G.path h.ref ++ prefix S h.ref ≡ G.full h.ref
-            → child S h.ref c ≡ Some y → picks y (suc (h.depth + length (prefix S h.ref))) ≡ aside g.ref g.depth → Ok g → OnDown g
-        stands_down h g c y l d w e q o =
-            let i = picks_aside y _ g.ref g.depth q in
-            let j = picks_depth y _ g.ref g.depth q in
-            let m = t.kid h.ref c g.ref l (e ∙ ap Some i.0) in
-            let n : length (G.path g.ref) ≡ suc (length (G.full h.ref)) = ap length m.1 ∙ snoc_len (G.full h.ref) c in
+        stands_down : (x : Ref) (d c : ℕ) (y : Ref) (g : H) → Linked G x → d ≡ length (G.path x) → G.path x ++ prefix S x ≡ G.full x
+            → child S x c ≡ Some y → picks y (suc (d + length (prefix S x))) ≡ aside (V.at g) (V.depth g) → Ok g → OnDown g
+        stands_down x d c y g l m w e q o =
+            let i = picks_aside y _ (V.at g) (V.depth g) q in
+            let j = picks_depth y _ (V.at g) (V.depth g) q in
+            let z = t.kid x c (V.at g) l (e ∙ ap Some i.0) in
+            let n : length (G.path (V.at g)) ≡ suc (length (G.full x)) = ap length z.1 ∙ snoc_len (G.full x) c in
             record {
               is_node = i.1;
-              linked = m.0;
-              depth = omega (arith, j, n, d, length-append (G.path h.ref) (prefix S h.ref), ap length w);
-              whole = ⊎_elim (λ x. x) (λ x. absurd (still g o x)) (t.split g.ref i.1 m.0).1;
+              linked = z.0;
+              depth = omega (arith, j, n, m, length-append (G.path x) (prefix S x), ap length w);
+              whole = ⊎_elim (λ x. x) (λ x. absurd (still g o x)) (t.split (V.at g) i.1 z.0).1;
               inner = λ r. omega (arith, n, ap length (ap G.path r ∙ t.root_path));
             }
 
-        past_down : (h g : Hold) (b : ℕ) (o : Option (ℕ × Ref)) → OnKey h → past S h.ref b ≡ o → picked o (suc (h.depth + length (prefix S h.ref))) back ≡ aside g.ref g.depth → Ok g → OnDown g
-        past_down h g b None k' e q o = let z : ◌≡◌ {A = ℕ} 0 1 = cc q in absurd (omega arith)
-        past_down h g b (Some (c, y)) k' e q o = stands_down h g c y k'.linked k'.depth k'.whole (past_some S h.ref b c y e).0 q o
+        past_down : (x : Ref) (d b : ℕ) (o : Option (ℕ × Ref)) (g : H) → KeyWay x d → past S x b ≡ o → picked o (suc (d + length (prefix S x))) back ≡ aside (V.at g) (V.depth g) → Ok g → OnDown g
+        past_down x d b None g k' e q o = let z : ◌≡◌ {A = ℕ} 0 1 = cc q in absurd (omega arith)
+        past_down x d b (Some (c, y)) g k' e q o = stands_down x d c y g k'.linked k'.depth k'.whole (past_some S x b c y e).0 q o
 
-        key_down : (h g : Hold) → OnKey h → KeyView S k h.ref h.depth (aside g.ref g.depth) → Ok g → OnDown g
-        key_down h g k' (KeyView.above c y a p q) o = stands_down h g c y k'.linked k'.depth k'.whole (smallest_some S h.ref c y p).0 q o
-        key_down h g k' (KeyView.lower a e) o = let z : ◌≡◌ {A = ℕ} 0 1 = cc e in absurd (omega arith)
-        key_down h g k' (KeyView.beside b a u q) o = past_down h g b (past S h.ref b) k' refl q o
-        key_down h g k' (KeyView.at b i a e f q) o = let z : ◌≡◌ {A = ℕ} 0 1 = cc q in absurd (omega arith)
-        key_down h g k' (KeyView.on b y a e n q) o = let z : ◌≡◌ {A = ℕ} 0 1 = cc q in absurd (omega arith)
+        key_down : (x : Ref) (d : ℕ) (g : H) → KeyWay x d → KeyView S k x d (aside (V.at g) (V.depth g)) → Ok g → OnDown g
+        key_down x d g k' (KeyView.above c y a p q) o = stands_down x d c y g k'.linked k'.depth k'.whole (smallest_some S x c y p).0 q o
+        key_down x d g k' (KeyView.lower a e) o = let z : ◌≡◌ {A = ℕ} 0 1 = cc e in absurd (omega arith)
+        key_down x d g k' (KeyView.beside b a u q) o = past_down x d b (past S x b) g k' refl q o
+        key_down x d g k' (KeyView.at b i a e f q) o = let z : ◌≡◌ {A = ℕ} 0 1 = cc q in absurd (omega arith)
+        key_down x d g k' (KeyView.on b y a e n q) o = let z : ◌≡◌ {A = ℕ} 0 1 = cc q in absurd (omega arith)
 
         aside_fresh : (y : Ref) (d : ℕ) → aside y d ≡ stale → ⊥
         aside_fresh y d e = let z : ◌≡◌ {A = ℕ} 0 1 = cc e in omega arith
 
-        next_on : (h g : Hold) → OnKey h → key_sight deep S k h.ref h.depth ≡ onward g.ref g.depth → Ok g → OnKey g
-        next_on h g k' e o =
-            let w = onwards h g k' (key_view S k h.ref h.depth _ deep e (onward_fresh g.ref g.depth)) in
-            stands g w.is_node w.linked (on_key h g w) (at_depth h g w) o
+        next_on : (h g : H) → OnKey h → key_sight deep S k (V.at h) (V.depth h) ≡ onward (V.at g) (V.depth g) → Ok g → OnKey g
+        next_on h g k' e o = stands_on g (onwards k' e) o
 
-        newest_on : (h : Hold) (hs : List Hold) → OnKey h → Links deep S k Ok h hs → Ok h → AllByRecursion Ok hs → OnKey (newest h hs)
+        newest_on : (h : H) (hs : List H) → OnKey h → Links V deep S k Ok h hs → Ok h → AllByRecursion Ok hs → OnKey (newest h hs)
         newest_on h [] k' w o os = k'
         newest_on h (g ∷ hs) k' w o os = newest_on g hs (next_on h g k' (w.0 o) os.0) w.1 os.0 os.1
 
-        place_on : (h : Hold) (hs : List Hold) (n : ℕ) → OnKey h → Saw deep S k Ok (h ∷ hs) (suc n) back → Ok h → AllByRecursion Ok hs → OnKey (place h hs n)
+        place_on : (h : H) (hs : List H) (n : ℕ) → OnKey h → Saw V deep S k Ok (h ∷ hs) (suc n) back → Ok h → AllByRecursion Ok hs → OnKey (place h hs n)
         place_on h hs zero k' w o os = k'
         place_on h [] (suc n) k' w o os = absurd w
         place_on h (g ∷ hs) (suc n) k' w o os = place_on g hs n (next_on h g k' (w.0 o) os.0) w.1 os.0 os.1
 
-        aside_on : (h : Hold) (hs : List Hold) (n : ℕ) (g : Hold) → OnKey h → Saw deep S k Ok (h ∷ hs) n (aside g.ref g.depth) → Ok h → AllByRecursion Ok hs → Ok g → OnDown g
-        aside_on h [] zero g k' w o os og = key_down h g k' (key_view S k h.ref h.depth _ deep (w o) (aside_fresh g.ref g.depth)) og
+        aside_on : (h : H) (hs : List H) (n : ℕ) (g : H) → OnKey h → Saw V deep S k Ok (h ∷ hs) n (aside (V.at g) (V.depth g)) → Ok h → AllByRecursion Ok hs → Ok g → OnDown g
+        aside_on h [] zero g k' w o os og = key_down (V.at h) (V.depth h) g k' (key_view S k (V.at h) (V.depth h) _ deep (w o) (aside_fresh (V.at g) (V.depth g))) og
         aside_on h [] (suc n) g k' w o os og = absurd w
         aside_on h (x ∷ hs) zero g k' w o os og =
-            past_down h g (taken k x) (past S h.ref (taken k x)) k' refl (back_view deep S (taken k x) h.ref h.depth _ (w.2 o) (aside_fresh g.ref g.depth)) og
+            past_down (V.at h) (V.depth h) (taken V k x) (past S (V.at h) (taken V k x)) g k' refl (back_view deep S (taken V k x) (V.at h) (V.depth h) _ (w.2 o) (aside_fresh (V.at g) (V.depth g))) og
         aside_on h (x ∷ hs) (suc n) g k' w o os og = aside_on x hs n g (next_on h x k' (w.0 o) os.0) w.1 os.0 os.1 og
 
-        newest_down : (h : Hold) (hs : List Hold) → OnDown h → DownLinks deep S k Ok h hs → Ok h → AllByRecursion Ok hs → OnDown (newest h hs)
+        newest_down : (h : H) (hs : List H) → OnDown h → DownLinks V deep S k Ok h hs → Ok h → AllByRecursion Ok hs → OnDown (newest h hs)
         newest_down h [] k' w o os = k'
         newest_down h (g ∷ hs) k' w o os =
-            let v = down_view deep S h.ref h.depth _ (w.0 o) (aside_fresh g.ref g.depth) in
-            newest_down g hs (stands_down h g v.0 v.1 k'.linked k'.depth k'.whole (smallest_some S h.ref v.0 v.1 v.2).0 v.3 os.0) w.1 os.0 os.1
-
-        root_on' : (f : Hold) → f ≡ hold root 0 → Ok f → OnKey f
-        root_on' f e o = root_on f (ap (λ (h : Hold). h.ref) e) (ap (λ (h : Hold). h.depth) e) o
+            let v = down_view deep S (V.at h) (V.depth h) _ (w.0 o) (aside_fresh (V.at g) (V.depth g)) in
+            newest_down g hs (stands_down (V.at h) (V.depth h) v.0 v.1 g k'.linked k'.depth k'.whole (smallest_some S (V.at h) v.0 v.1 v.2).0 v.3 os.0) w.1 os.0 os.1
 
         -- with every permit sound, a look is not stale
-        pub fresh_look : (f : Hold) (hs : List Hold) → Key k → Seen deep S k Ok (on f hs [] look_key) → Ok f → AllByRecursion Ok hs → key_sight deep S k (newest f hs).ref (newest f hs).depth ≡ stale → ⊥
-        fresh_look f hs key w o os = fresh_key (newest f hs) key (newest_on f hs (root_on' f w.0 o) w.1 o os)
+        pub fresh_look : (f : H) (hs : List H) → Key k → Seen V deep S k Ok (on f hs [] look_key) → Ok f → AllByRecursion Ok hs → key_sight deep S k (V.at (newest f hs)) (V.depth (newest f hs)) ≡ stale → ⊥
+        fresh_look f hs key w o os = fresh_key (V.at (newest f hs)) (V.depth (newest f hs)) key (newest_on f hs (root_on f w.0.0 w.0.1 o) w.1 o os)
 
-        pub fresh_look_back : (f : Hold) (hs : List Hold) (n b : ℕ) → Seen deep S k Ok (on f hs [] (look_back n)) → Ok f → AllByRecursion Ok hs → back_sight deep S b (place f hs n).ref (place f hs n).depth ≡ stale → ⊥
-        fresh_look_back f hs n b w o os = fresh_back (place f hs n) b (place_on f hs n (root_on' f w.0 o) w.1 o os)
+        pub fresh_look_back : (f : H) (hs : List H) (n b : ℕ) → Seen V deep S k Ok (on f hs [] (look_back n)) → Ok f → AllByRecursion Ok hs → back_sight deep S b (V.at (place f hs n)) (V.depth (place f hs n)) ≡ stale → ⊥
+        fresh_look_back f hs n b w o os = fresh_back (V.at (place f hs n)) (V.depth (place f hs n)) b (place_on f hs n (root_on f w.0.0 w.0.1 o) w.1 o os)
 
-        pub fresh_look_down : (f g : Hold) (hs ds : List Hold) (n : ℕ) → Seen deep S k Ok (on f hs (g ∷ ds) (look_down n)) → Ok f → AllByRecursion Ok hs → AllByRecursion Ok (g ∷ ds)
-            → down_sight deep S (newest g ds).ref (newest g ds).depth ≡ stale → ⊥
+        pub fresh_look_down : (f g : H) (hs ds : List H) (n : ℕ) → Seen V deep S k Ok (on f hs (g ∷ ds) (look_down n)) → Ok f → AllByRecursion Ok hs → AllByRecursion Ok (g ∷ ds)
+            → down_sight deep S (V.at (newest g ds)) (V.depth (newest g ds)) ≡ stale → ⊥
         fresh_look_down f g hs ds n w o os od =
-            let d : OnDown g = aside_on f hs n g (root_on' f w.0 o) (subst (Saw deep S k Ok (f ∷ hs) n) w.1.2.0 w.1.1) o os od.0 in
-            fresh_down (newest g ds) (newest_down g ds d w.1.2.1 od.0 od.1)
+            let d : OnDown g = aside_on f hs n g (root_on f w.0.0 w.0.1 o) (subst (Saw V deep S k Ok (f ∷ hs) n) w.1.2.0 w.1.1) o os od.0 in
+            fresh_down (V.at (newest g ds)) (V.depth (newest g ds)) (newest_down g ds d w.1.2.1 od.0 od.1)
 
         -- with every permit sound, all nodes of the key's way stand on it
-        keys_on : (h : Hold) (hs : List Hold) (n : ℕ) (s : Sight) → OnKey h → Saw deep S k Ok (h ∷ hs) n s → Ok h → AllByRecursion Ok hs → AllByRecursion OnKey (h ∷ hs)
+        keys_on : (h : H) (hs : List H) (n : ℕ) (s : Sight) → OnKey h → Saw V deep S k Ok (h ∷ hs) n s → Ok h → AllByRecursion Ok hs → AllByRecursion OnKey (h ∷ hs)
         keys_on h [] zero s k' w o os = (k', tt)
         keys_on h [] (suc n) s k' w o os = absurd w
         keys_on h (g ∷ hs) zero s k' w o os = (k', keys_on g hs zero back (next_on h g k' (w.0 o) os.0) w.1 os.0 os.1)
@@ -473,103 +480,102 @@ module _ {deep : ℕ} {Key : List ℕ → Type 0} {flux : Ref → Type 0} {S : T
         Aim y e = Linked G y × (e ≡ length (G.path y))
 
         -- the key's way leads on to y
-        led_on : (h : Hold) (hs : List Hold) (y : Ref) (e : ℕ) → OnKey h → Saw deep S k Ok (h ∷ hs) (length hs) (onward y e) → Ok h → AllByRecursion Ok hs → Aim y e
+        led_on : (h : H) (hs : List H) (y : Ref) (e : ℕ) → OnKey h → Saw V deep S k Ok (h ∷ hs) (length hs) (onward y e) → Ok h → AllByRecursion Ok hs → Aim y e
         led_on h [] y e k' w o os =
-            let g : Hold = hold y e in
-            let q = onwards h g k' (key_view S k h.ref h.depth (onward y e) deep (w o) (onward_fresh y e)) in
-            (q.linked, at_depth h g q)
+            let q = onwards k' (w o) in
+            (q.linked, at_depth q)
         led_on h (g ∷ hs) y e k' w o os = led_on g hs y e (next_on h g k' (w.0 o) os.0) w.1 os.0 os.1
 
         -- a child that is picked
-        picked_aim : (h : Hold) (c : ℕ) (y z : Ref) (e : ℕ) → Linked G h.ref → h.depth ≡ length (G.path h.ref) → G.path h.ref ++ prefix S h.ref ≡ G.full h.ref
-            → child S h.ref c ≡ Some y → picks y (suc (h.depth + length (prefix S h.ref))) ≡ aside z e → Aim z e × (G.path z ≡ G.full h.ref ++ c ∷ [])
-        picked_aim h c y z e l d w f q =
+        picked_aim : (x : Ref) (d c : ℕ) (y z : Ref) (e : ℕ) → Linked G x → d ≡ length (G.path x) → G.path x ++ prefix S x ≡ G.full x
+            → child S x c ≡ Some y → picks y (suc (d + length (prefix S x))) ≡ aside z e → Aim z e × (G.path z ≡ G.full x ++ c ∷ [])
+        picked_aim x d c y z e l v w f q =
             let i = picks_aside y _ z e q in
             let j = picks_depth y _ z e q in
-            let m = t.kid h.ref c z l (f ∙ ap Some i.0) in
-            let n : length (G.path z) ≡ suc (length (G.full h.ref)) = ap length m.1 ∙ snoc_len (G.full h.ref) c in
-            ((m.0, omega (arith, j, n, d, length-append (G.path h.ref) (prefix S h.ref), ap length w)), m.1)
+            let m = t.kid x c z l (f ∙ ap Some i.0) in
+            let n : length (G.path z) ≡ suc (length (G.full x)) = ap length m.1 ∙ snoc_len (G.full x) c in
+            ((m.0, omega (arith, j, n, v, length-append (G.path x) (prefix S x), ap length w)), m.1)
 
         -- off the key's way
         abbrev Off : Ref → ℕ → Type 0
         Off y e = Aim y e × (G.path y ≼ k → ⊥)
 
-        past_off : (h : Hold) (b : ℕ) (y : Ref) (e : ℕ) (o : Option (ℕ × Ref)) → OnKey h → G.full h.ref ++ b ∷ [] ≼ k → past S h.ref b ≡ o
-            → picked o (suc (h.depth + length (prefix S h.ref))) back ≡ aside y e → Off y e
-        past_off h b y e None k' g f q = let z : ◌≡◌ {A = ℕ} 0 1 = cc q in absurd (omega arith)
-        past_off h b y e (Some (c, z)) k' g f q =
-            let v = past_some S h.ref b c z f in
-            let a = picked_aim h c z y e k'.linked k'.depth k'.whole v.0 q in
-            (a.0, λ p. omega (arith, v.1, byte_at (G.full h.ref) k b g, byte_at (G.full h.ref) k c (subst (λ (u : List ℕ). u ≼ k) a.1 p)))
+        past_off : (x : Ref) (d b : ℕ) (y : Ref) (e : ℕ) (o : Option (ℕ × Ref)) → KeyWay x d → G.full x ++ b ∷ [] ≼ k → past S x b ≡ o
+            → picked o (suc (d + length (prefix S x))) back ≡ aside y e → Off y e
+        past_off x d b y e None k' g f q = let z : ◌≡◌ {A = ℕ} 0 1 = cc q in absurd (omega arith)
+        past_off x d b y e (Some (c, z)) k' g f q =
+            let v = past_some S x b c z f in
+            let a = picked_aim x d c z y e k'.linked k'.depth k'.whole v.0 q in
+            (a.0, λ p. omega (arith, v.1, byte_at (G.full x) k b g, byte_at (G.full x) k c (subst (λ (u : List ℕ). u ≼ k) a.1 p)))
 
-        key_off : (h : Hold) (y : Ref) (e : ℕ) → OnKey h → KeyView S k h.ref h.depth (aside y e) → Off y e
-        key_off h y e k' (KeyView.above c z a p q) =
-            let m = picked_aim h c z y e k'.linked k'.depth k'.whole (smallest_some S h.ref c z p).0 q in (
+        key_off : (x : Ref) (d : ℕ) (y : Ref) (e : ℕ) → KeyWay x d → KeyView S k x d (aside y e) → Off y e
+        key_off x d y e k' (KeyView.above c z a p q) =
+            let m = picked_aim x d c z y e k'.linked k'.depth k'.whole (smallest_some S x c z p).0 q in (
               m.0,
               λ f.
-                  let r : List ℕ = drop (length (G.path h.ref)) k in
-                  let i : G.full h.ref ≼ k = ≼_trans (G.full h.ref) (G.full h.ref ++ c ∷ []) k (≼_app (G.full h.ref) (c ∷ [])) (subst (λ (u : List ℕ). u ≼ k) m.1 f) in
-                  let j = begins_drop (G.path h.ref) (prefix S h.ref) k (subst (λ (u : List ℕ). u ≼ k) (sym k'.whole) i) in
-                  first_not r (larger_first (prefix S h.ref) r r (subst (λ (n : ℕ). against (prefix S h.ref) (drop n k) ≡ larger) k'.depth a) j),
+                  let r : List ℕ = drop (length (G.path x)) k in
+                  let i : G.full x ≼ k = ≼_trans (G.full x) (G.full x ++ c ∷ []) k (≼_app (G.full x) (c ∷ [])) (subst (λ (u : List ℕ). u ≼ k) m.1 f) in
+                  let j = begins_drop (G.path x) (prefix S x) k (subst (λ (u : List ℕ). u ≼ k) (sym k'.whole) i) in
+                  first_not r (larger_first (prefix S x) r r (subst (λ (n : ℕ). against (prefix S x) (drop n k) ≡ larger) k'.depth a) j),
             )
-        key_off h y e k' (KeyView.lower a q) = let z : ◌≡◌ {A = ℕ} 0 1 = cc q in absurd (omega arith)
-        key_off h y e k' (KeyView.beside b a u q) = past_off h b y e (past S h.ref b) k' (at_byte h b k' a) refl q
-        key_off h y e k' (KeyView.at b i a f g q) = let z : ◌≡◌ {A = ℕ} 0 1 = cc q in absurd (omega arith)
-        key_off h y e k' (KeyView.on b z a f n q) = let z : ◌≡◌ {A = ℕ} 0 1 = cc q in absurd (omega arith)
+        key_off x d y e k' (KeyView.lower a q) = let z : ◌≡◌ {A = ℕ} 0 1 = cc q in absurd (omega arith)
+        key_off x d y e k' (KeyView.beside b a u q) = past_off x d b y e (past S x b) k' (at_byte x d b k' a) refl q
+        key_off x d y e k' (KeyView.at b i a f g q) = let z : ◌≡◌ {A = ℕ} 0 1 = cc q in absurd (omega arith)
+        key_off x d y e k' (KeyView.on b z a f n q) = let z : ◌≡◌ {A = ℕ} 0 1 = cc q in absurd (omega arith)
 
-        saw_off : (h : Hold) (hs : List Hold) (n : ℕ) (y : Ref) (e : ℕ) → OnKey h → Saw deep S k Ok (h ∷ hs) n (aside y e) → Ok h → AllByRecursion Ok hs → Off y e
-        saw_off h [] zero y e k' w o os = key_off h y e k' (key_view S k h.ref h.depth (aside y e) deep (w o) (aside_fresh y e))
+        saw_off : (h : H) (hs : List H) (n : ℕ) (y : Ref) (e : ℕ) → OnKey h → Saw V deep S k Ok (h ∷ hs) n (aside y e) → Ok h → AllByRecursion Ok hs → Off y e
+        saw_off h [] zero y e k' w o os = key_off (V.at h) (V.depth h) y e k' (key_view S k (V.at h) (V.depth h) (aside y e) deep (w o) (aside_fresh y e))
         saw_off h [] (suc n) y e k' w o os = absurd w
         saw_off h (g ∷ hs) zero y e k' w o os =
-            let q = onwards h g k' (key_view S k h.ref h.depth _ deep (w.0 o) (onward_fresh g.ref g.depth)) in
-            past_off h q.byte y e (past S h.ref q.byte) k' q.goes refl
-            (back_view deep S q.byte h.ref h.depth (aside y e) (subst (λ (b : ℕ). back_sight deep S b h.ref h.depth ≡ aside y e) (byte_taken h g q) (w.2 o)) (aside_fresh y e))
+            let q = onwards k' (w.0 o) in
+            past_off (V.at h) (V.depth h) q.byte y e (past S (V.at h) q.byte) k' q.goes refl
+            (back_view deep S q.byte (V.at h) (V.depth h) (aside y e) (subst (λ (b : ℕ). back_sight deep S b (V.at h) (V.depth h) ≡ aside y e) (byte_taken g q) (w.2 o)) (aside_fresh y e))
         saw_off h (g ∷ hs) (suc n) y e k' w o os = saw_off g hs n y e (next_on h g k' (w.0 o) os.0) w.1 os.0 os.1
 
         -- the way down leads to y
-        down_off : (h : Hold) (hs : List Hold) (y : Ref) (e : ℕ) → OnDown h → (G.path h.ref ≼ k → ⊥) → SawDown deep S Ok h hs (aside y e) → Ok h → AllByRecursion Ok hs → Off y e × AllByRecursion OnDown (h ∷ hs)
+        down_off : (h : H) (hs : List H) (y : Ref) (e : ℕ) → OnDown h → (G.path (V.at h) ≼ k → ⊥) → SawDown V deep S Ok h hs (aside y e) → Ok h → AllByRecursion Ok hs → Off y e × AllByRecursion OnDown (h ∷ hs)
         down_off h [] y e k' f w o os =
-            let v = down_view deep S h.ref h.depth (aside y e) (w o) (aside_fresh y e) in
-            let a = picked_aim h v.0 v.1 y e k'.linked k'.depth k'.whole (smallest_some S h.ref v.0 v.1 v.2).0 v.3 in
-            ((a.0, λ p. f (up h.ref v.0 k k'.is_node k'.linked (subst (λ (u : List ℕ). u ≼ k) a.1 p))), (k', tt))
+            let v = down_view deep S (V.at h) (V.depth h) (aside y e) (w o) (aside_fresh y e) in
+            let a = picked_aim (V.at h) (V.depth h) v.0 v.1 y e k'.linked k'.depth k'.whole (smallest_some S (V.at h) v.0 v.1 v.2).0 v.3 in
+            ((a.0, λ p. f (up (V.at h) v.0 k k'.is_node k'.linked (subst (λ (u : List ℕ). u ≼ k) a.1 p))), (k', tt))
         down_off h (g ∷ hs) y e k' f w o os =
-            let v = down_view deep S h.ref h.depth _ (w.0 o) (aside_fresh g.ref g.depth) in
-            let c = (smallest_some S h.ref v.0 v.1 v.2).0 in
-            let a = picked_aim h v.0 v.1 g.ref g.depth k'.linked k'.depth k'.whole c v.3 in
-            let r = down_off g hs y e (stands_down h g v.0 v.1 k'.linked k'.depth k'.whole c v.3 os.0)
-            (λ p. f (up h.ref v.0 k k'.is_node k'.linked (subst (λ (u : List ℕ). u ≼ k) a.1 p))) w.1 os.0 os.1 in
+            let v = down_view deep S (V.at h) (V.depth h) _ (w.0 o) (aside_fresh (V.at g) (V.depth g)) in
+            let c = (smallest_some S (V.at h) v.0 v.1 v.2).0 in
+            let a = picked_aim (V.at h) (V.depth h) v.0 v.1 (V.at g) (V.depth g) k'.linked k'.depth k'.whole c v.3 in
+            let r = down_off g hs y e (stands_down (V.at h) (V.depth h) v.0 v.1 g k'.linked k'.depth k'.whole c v.3 os.0)
+            (λ p. f (up (V.at h) v.0 k k'.is_node k'.linked (subst (λ (u : List ℕ). u ≼ k) a.1 p))) w.1 os.0 os.1 in
             (r.0, (k', r.1))
 
         -- what is less deep, or on the key's way where y is not, is elsewhere
-        less_deep : (P : Hold → Type 0) → ((h : Hold) → P h → h.depth ≡ length (G.path h.ref)) → (y : Ref) (d : ℕ) → d ≡ length (G.path y) → (hs : List Hold) → AllByRecursion P hs → AllByRecursion (λ h. h.depth < d) hs → AllByRecursion (λ h. h.ref ≡ y → ⊥) hs
+        less_deep : (P : H → Type 0) → ((h : H) → P h → V.depth h ≡ length (G.path (V.at h))) → (y : Ref) (d : ℕ) → d ≡ length (G.path y) → (hs : List H) → AllByRecursion P hs → AllByRecursion (λ h. V.depth h < d) hs → AllByRecursion (λ h. V.at h ≡ y → ⊥) hs
         less_deep P f y d e [] a b = tt
         less_deep P f y d e (h ∷ hs) a b = (
-          (λ q. let z : length (G.path h.ref) ≡ length (G.path y) = ap (λ (x : Ref). length (G.path x)) q in omega (arith, z, e, b.0, f h a.0)),
+          (λ q. let z : length (G.path (V.at h)) ≡ length (G.path y) = ap (λ (x : Ref). length (G.path x)) q in omega (arith, z, e, b.0, f h a.0)),
           less_deep P f y d e hs a.1 b.1,
         )
 
-        off_apart : (y : Ref) → (G.path y ≼ k → ⊥) → (hs : List Hold) → AllByRecursion OnKey hs → AllByRecursion (λ h. h.ref ≡ y → ⊥) hs
+        off_apart : (y : Ref) → (G.path y ≼ k → ⊥) → (hs : List H) → AllByRecursion OnKey hs → AllByRecursion (λ h. V.at h ≡ y → ⊥) hs
         off_apart y f [] a = tt
         off_apart y f (h ∷ hs) a = ((λ q. f (subst (λ (x : Ref). G.path x ≼ k) q a.0.begins)), off_apart y f hs a.1)
 
         -- with every permit sound, the node to be taken is linked, and differs from those that are held
-        pub free_key : (f : Hold) (hs : List Hold) (y : Ref) (d : ℕ) → Seen deep S k Ok (on f hs [] (take_key y d)) → Ok f → AllByRecursion Ok hs → AllByRecursion (λ h. h.depth < d) (f ∷ hs)
-            → Linked G y × AllByRecursion (λ h. h.ref ≡ y → ⊥) (f ∷ hs)
+        pub free_key : (f : H) (hs : List H) (y : Ref) (d : ℕ) → Seen V deep S k Ok (on f hs [] (take_key y d)) → Ok f → AllByRecursion Ok hs → AllByRecursion (λ h. V.depth h < d) (f ∷ hs)
+            → Linked G y × AllByRecursion (λ h. V.at h ≡ y → ⊥) (f ∷ hs)
         free_key f hs y d w o os b =
-            let r = root_on' f w.0 o in
+            let r = root_on f w.0.0 w.0.1 o in
             let a = led_on f hs y d r w.1 o os in
             (a.0, less_deep OnKey (λ h k'. k'.depth) y d a.1 (f ∷ hs) (keys_on f hs (length hs) (onward y d) r w.1 o os) b)
 
-        pub free_down : (f : Hold) (hs ds : List Hold) (n : ℕ) (y : Ref) (d : ℕ) → Seen deep S k Ok (on f hs ds (take_down n y d)) → Ok f → AllByRecursion Ok hs → AllByRecursion Ok ds → AllByRecursion (λ h. h.depth < d) ds
-            → Linked G y × AllByRecursion (λ h. h.ref ≡ y → ⊥) (f ∷ hs) × AllByRecursion (λ h. h.ref ≡ y → ⊥) ds
+        pub free_down : (f : H) (hs ds : List H) (n : ℕ) (y : Ref) (d : ℕ) → Seen V deep S k Ok (on f hs ds (take_down n y d)) → Ok f → AllByRecursion Ok hs → AllByRecursion Ok ds → AllByRecursion (λ h. V.depth h < d) ds
+            → Linked G y × AllByRecursion (λ h. V.at h ≡ y → ⊥) (f ∷ hs) × AllByRecursion (λ h. V.at h ≡ y → ⊥) ds
         free_down f hs [] n y d w o os od b =
-            let r = root_on' f w.0 o in
-            let a = saw_off f hs n y d r (subst (Saw deep S k Ok (f ∷ hs) n) w.1.2 w.1.1) o os in
+            let r = root_on f w.0.0 w.0.1 o in
+            let a = saw_off f hs n y d r (subst (Saw V deep S k Ok (f ∷ hs) n) w.1.2 w.1.1) o os in
             (a.0.0, off_apart y a.1 (f ∷ hs) (keys_on f hs n w.1.0 r w.1.1 o os), tt)
         free_down f hs (g ∷ ds) n y d w o os od b =
-            let r = root_on' f w.0 o in
-            let q = subst (Saw deep S k Ok (f ∷ hs) n) w.1.2.0 w.1.1 in
-            let a = down_off g ds y d (aside_on f hs n g r q o os od.0) (saw_off f hs n g.ref g.depth r q o os).1 w.1.2.1 od.0 od.1 in
+            let r = root_on f w.0.0 w.0.1 o in
+            let q = subst (Saw V deep S k Ok (f ∷ hs) n) w.1.2.0 w.1.1 in
+            let a = down_off g ds y d (aside_on f hs n g r q o os od.0) (saw_off f hs n (V.at g) (V.depth g) r q o os).1 w.1.2.1 od.0 od.1 in
             (a.0.0.0, off_apart y a.0.1 (f ∷ hs) (keys_on f hs n w.1.0 r w.1.1 o os), less_deep OnDown (λ h k'. k'.depth) y d a.0.0.1 (g ∷ ds) a.1 b)
 
   -- the answer among all linked leaves is the map's
@@ -581,11 +587,11 @@ module _ {deep : ℕ} {Key : List ℕ → Type 0} {flux : Ref → Type 0} {S : T
     least = λ b w (j, l, e, v) n f. a.least j l tt (λ g. n (subst (λ (u : List ℕ). First u k) e g)) (subst (λ (u : List ℕ). First u (S.entries i).key) (sym e) f);
   }
 
-  pub snapshot : (Ok : Hold → Type 0) (k : List ℕ) (r : Option ℕ) (w : Trail deep S k Ok r) → SoundNow Ok flux w → NextOf (Holds S G) k (pair_of S r)
-  snapshot Ok k r w s =
-      let a = answer Ok k s.still w.first w.keys w.place w.sight w.downs r (root_on Ok k s.still w.first w.at_root w.at_start s.keys.0)
+  pub snapshot : {H : Type 0} (V : Held H) (Ok : H → Type 0) (k : List ℕ) (r : Option ℕ) (w : Trail V deep S k Ok r) → SoundNow Ok flux w → NextOf (Holds S G) k (pair_of S r)
+  snapshot V Ok k r w s =
+      let a = answer V Ok k s.still w.first w.keys w.place w.sight w.downs r (root_on V Ok k s.still w.first w.at_root w.at_start s.keys.0)
       w.saw w.led w.past s.keys.0 s.keys.1 s.downs in
       all k r (subst (λ (u : List ℕ). Answer S G k u r) (ap G.path w.at_root ∙ t.root_path) a)
 
-pub snapshot_stands : Snapshot
-snapshot_stands = λ deep key flux ok S G k r t b w s. snapshot t b (λ (h : Hold). T (ok h)) k r w s
+pub snapshot_stands : {H : Type 0} (V : Held H) → Snapshot V
+snapshot_stands {H = H} V = λ deep key flux ok S G k r t b w s. snapshot t b V (λ (h : H). T (ok h)) k r w s

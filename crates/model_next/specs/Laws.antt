@@ -6,7 +6,7 @@ use Rattle.model.specs.Tree.{Tree, child, Ghost, Linked, TreeOk, Holds}
 use Rattle.keys.specs.Bytes.{First}
 use Rattle.model_next.specs.Bytes.{comes, larger, smaller, same, against}
 use Rattle.std.specs.List.{AllByRecursion}
-use Rattle.model_next.specs.Look.{stale, key_sight, back_sight, down_sight, smallest, Hold, taken}
+use Rattle.model_next.specs.Look.{stale, key_sight, back_sight, down_sight, smallest, Held, taken}
 use Rattle.model_next.specs.Next.{NextOf, pair_of}
 use Rattle.model_next.specs.Walk.{Walk, on, look_key, look_back, look_down, scan, newest, place, Goes, Seen, Stays, HeldStays}
 
@@ -45,30 +45,30 @@ OneAnswer = (S : Tree) (G : Ghost) (k : List ℕ) (r r' : Option (List ℕ × �
     → ((a : List ℕ) (v w : ℕ) → Holds S G a v → Holds S G a w → v ≡ w) → NextOf (Holds S G) k r → NextOf (Holds S G) k r' → r ≡ r'
 
 -- a permit at place i or behind it is not sound
-abbrev pub Bad : (Hold → Bool) → List Hold → ℕ → Type 0
-Bad ok hs i = (j : ℕ) × (h : Hold) × (i ≤ j) × (j < length hs) × (h ≡ slice_index_or hs j h) × (ok h ≡ false)
+abbrev pub Bad : {H : Type 0} → (H → Bool) → List H → ℕ → Type 0
+Bad {H = H} ok hs i = (j : ℕ) × (h : H) × (i ≤ j) × (j < length hs) × (h ≡ slice_index_or hs j h) × (ok h ≡ false)
 
 -- what next has seen: kept by its own steps and by those of others; when the scan begins, the map's answer is in hand, or a permit is bad;
 -- a bad permit stays bad, and the scan meets it
-pub record WalkLaws : Type 0 where
-  pub own : (deep : ℕ) (S : Tree) (k : List ℕ) (ok : Hold → Bool) (w v : Walk) → Seen deep S k (λ (h : Hold). T (ok h)) w → Goes deep S k w v → Seen deep S k (λ (h : Hold). T (ok h)) v
-  pub others : (deep : ℕ) (k : List ℕ) (S S' : Tree) (ok ok' : Hold → Bool) (w : Walk) → HeldStays (Stays deep k S S' (λ (h : Hold). T (ok h)) (λ (h : Hold). T (ok' h))) w
-      → Seen deep S k (λ (h : Hold). T (ok h)) w → Seen deep S' k (λ (h : Hold). T (ok' h)) w
-  pub begins : (deep : ℕ) (key : List ℕ → Bool) (flux : Ref → Bool) (ok : Hold → Bool) (S : Tree) (G : Ghost) (k : List ℕ) (f : Hold) (hs ds : List Hold) (n : ℕ) (r : Option ℕ)
-      → Good deep key flux S G → ((h : Hold) → T (ok h) → T (flux h.ref) → ⊥) → Seen deep S k (λ (h : Hold). T (ok h)) (on f hs ds (scan n 0 r))
+pub record WalkLaws {H : Type 0} (V : Held H) : Type 0 where
+  pub own : (deep : ℕ) (S : Tree) (k : List ℕ) (ok : H → Bool) (w v : Walk H) → Seen V deep S k (λ (h : H). T (ok h)) w → Goes V deep S k w v → Seen V deep S k (λ (h : H). T (ok h)) v
+  pub others : (deep : ℕ) (k : List ℕ) (S S' : Tree) (ok ok' : H → Bool) (w : Walk H) → HeldStays (Stays V deep k S S' (λ (h : H). T (ok h)) (λ (h : H). T (ok' h))) w
+      → Seen V deep S k (λ (h : H). T (ok h)) w → Seen V deep S' k (λ (h : H). T (ok' h)) w
+  pub begins : (deep : ℕ) (key : List ℕ → Bool) (flux : Ref → Bool) (ok : H → Bool) (S : Tree) (G : Ghost) (k : List ℕ) (f : H) (hs ds : List H) (n : ℕ) (r : Option ℕ)
+      → Good deep key flux S G → ((h : H) → T (ok h) → T (flux (V.at h)) → ⊥) → Seen V deep S k (λ (h : H). T (ok h)) (on f hs ds (scan n 0 r))
       → NextOf (Holds S G) k (pair_of S r) ⊎ Bad ok (f ∷ hs ++ ds) 0
-  pub bad_stays : (ok ok' : Hold → Bool) (hs : List Hold) (i : ℕ) → AllByRecursion (λ (h : Hold). T (ok' h) → T (ok h)) hs → Bad ok hs i → Bad ok' hs i
-  pub passes : (ok : Hold → Bool) (hs : List Hold) (i : ℕ) (h : Hold) → h ≡ slice_index_or hs i h → T (ok h) → Bad ok hs i → Bad ok hs (suc i)
-  pub ends : (ok : Hold → Bool) (hs : List Hold) → Bad ok hs (length hs) → ⊥
+  pub bad_stays : (ok ok' : H → Bool) (hs : List H) (i : ℕ) → AllByRecursion (λ (h : H). T (ok' h) → T (ok h)) hs → Bad ok hs i → Bad ok' hs i
+  pub passes : (ok : H → Bool) (hs : List H) (i : ℕ) (h : H) → h ≡ slice_index_or hs i h → T (ok h) → Bad ok hs i → Bad ok hs (suc i)
+  pub ends : (ok : H → Bool) (hs : List H) → Bad ok hs (length hs) → ⊥
 
 -- With every permit sound, no look of next is stale.
-pub record FreshLaws : Type 0 where
-  pub key : (deep : ℕ) (key : List ℕ → Bool) (flux : Ref → Bool) (ok : Hold → Bool) (S : Tree) (G : Ghost) (k : List ℕ) (f : Hold) (hs : List Hold)
-      → Good deep key flux S G → ((h : Hold) → T (ok h) → T (flux h.ref) → ⊥) → T (key k) → Seen deep S k (λ (h : Hold). T (ok h)) (on f hs [] look_key)
-      → AllByRecursion (λ (h : Hold). T (ok h)) (f ∷ hs) → key_sight deep S k (newest f hs).ref (newest f hs).depth ≢ stale
-  pub back : (deep : ℕ) (key : List ℕ → Bool) (flux : Ref → Bool) (ok : Hold → Bool) (S : Tree) (G : Ghost) (k : List ℕ) (f : Hold) (hs : List Hold) (n : ℕ)
-      → Good deep key flux S G → ((h : Hold) → T (ok h) → T (flux h.ref) → ⊥) → Seen deep S k (λ (h : Hold). T (ok h)) (on f hs [] (look_back n))
-      → AllByRecursion (λ (h : Hold). T (ok h)) (f ∷ hs) → back_sight deep S (taken k (place f hs (suc n))) (place f hs n).ref (place f hs n).depth ≢ stale
-  pub down : (deep : ℕ) (key : List ℕ → Bool) (flux : Ref → Bool) (ok : Hold → Bool) (S : Tree) (G : Ghost) (k : List ℕ) (f g : Hold) (hs ds : List Hold) (n : ℕ)
-      → Good deep key flux S G → ((h : Hold) → T (ok h) → T (flux h.ref) → ⊥) → Seen deep S k (λ (h : Hold). T (ok h)) (on f hs (g ∷ ds) (look_down n))
-      → AllByRecursion (λ (h : Hold). T (ok h)) (f ∷ hs) → AllByRecursion (λ (h : Hold). T (ok h)) (g ∷ ds) → down_sight deep S (newest g ds).ref (newest g ds).depth ≢ stale
+pub record FreshLaws {H : Type 0} (V : Held H) : Type 0 where
+  pub key : (deep : ℕ) (key : List ℕ → Bool) (flux : Ref → Bool) (ok : H → Bool) (S : Tree) (G : Ghost) (k : List ℕ) (f : H) (hs : List H)
+      → Good deep key flux S G → ((h : H) → T (ok h) → T (flux (V.at h)) → ⊥) → T (key k) → Seen V deep S k (λ (h : H). T (ok h)) (on f hs [] look_key)
+      → AllByRecursion (λ (h : H). T (ok h)) (f ∷ hs) → key_sight deep S k (V.at (newest f hs)) (V.depth (newest f hs)) ≢ stale
+  pub back : (deep : ℕ) (key : List ℕ → Bool) (flux : Ref → Bool) (ok : H → Bool) (S : Tree) (G : Ghost) (k : List ℕ) (f : H) (hs : List H) (n : ℕ)
+      → Good deep key flux S G → ((h : H) → T (ok h) → T (flux (V.at h)) → ⊥) → Seen V deep S k (λ (h : H). T (ok h)) (on f hs [] (look_back n))
+      → AllByRecursion (λ (h : H). T (ok h)) (f ∷ hs) → back_sight deep S (taken V k (place f hs (suc n))) (V.at (place f hs n)) (V.depth (place f hs n)) ≢ stale
+  pub down : (deep : ℕ) (key : List ℕ → Bool) (flux : Ref → Bool) (ok : H → Bool) (S : Tree) (G : Ghost) (k : List ℕ) (f g : H) (hs ds : List H) (n : ℕ)
+      → Good deep key flux S G → ((h : H) → T (ok h) → T (flux (V.at h)) → ⊥) → Seen V deep S k (λ (h : H). T (ok h)) (on f hs (g ∷ ds) (look_down n))
+      → AllByRecursion (λ (h : H). T (ok h)) (f ∷ hs) → AllByRecursion (λ (h : H). T (ok h)) (g ∷ ds) → down_sight deep S (V.at (newest g ds)) (V.depth (newest g ds)) ≢ stale

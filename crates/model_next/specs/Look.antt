@@ -58,35 +58,36 @@ back_sight deep S b x d = within deep S x d (picked (past S x b) (suc (d + lengt
 unfoldable pub down_sight : ℕ → Tree → Ref → ℕ → Sight
 down_sight deep S x d = within deep S x d (picked (smallest S x) (suc (d + length (prefix S x))) stale)
 
--- a node held, with the count of key bytes before its prefix
-pub record Hold : Type 0 where
-  pub ref : Ref
-  pub depth : ℕ
+-- a kind of held node: where one stands, and the count of key bytes before its prefix
+pub record Held (H : Type 0) : Type 0 where
+  pub at : H → Ref
+  pub depth : H → ℕ
 
--- the byte taken above h
-abbrev pub taken : List ℕ → Hold → ℕ
-taken k h = slice_index k (h.depth - 1)
+module _ {H : Type 0} (V : Held H) where
+  -- the byte taken above h
+  abbrev pub taken : List ℕ → H → ℕ
+  taken k h = slice_index k (V.depth h - 1)
 
--- What the nodes on the key's way saw, oldest first, where their permits still hold (Ok): each saw the next one under the key's byte;
--- those behind place n saw nothing more in going back, and the newest look at place n saw s.
-abbrev pub Saw : ℕ → Tree → List ℕ → (Hold → Type 0) → List Hold → ℕ → Sight → Type 0
-Saw deep S k Ok [] n s = ⊥
-Saw deep S k Ok (h ∷ []) zero s = Ok h → key_sight deep S k h.ref h.depth ≡ s
-Saw deep S k Ok (h ∷ []) (suc n) s = ⊥
-Saw deep S k Ok (h ∷ g ∷ hs) zero s =
-    (Ok h → key_sight deep S k h.ref h.depth ≡ onward g.ref g.depth) × Saw deep S k Ok (g ∷ hs) zero back
-    × (Ok h → back_sight deep S (taken k g) h.ref h.depth ≡ s)
-Saw deep S k Ok (h ∷ g ∷ hs) (suc n) s =
-    (Ok h → key_sight deep S k h.ref h.depth ≡ onward g.ref g.depth) × Saw deep S k Ok (g ∷ hs) n s
+  -- What the nodes on the key's way saw, oldest first, where their permits still hold (Ok): each saw the next one under the key's byte;
+  -- those behind place n saw nothing more in going back, and the newest look at place n saw s.
+  abbrev pub Saw : ℕ → Tree → List ℕ → (H → Type 0) → List H → ℕ → Sight → Type 0
+  Saw deep S k Ok [] n s = ⊥
+  Saw deep S k Ok (h ∷ []) zero s = Ok h → key_sight deep S k (V.at h) (V.depth h) ≡ s
+  Saw deep S k Ok (h ∷ []) (suc n) s = ⊥
+  Saw deep S k Ok (h ∷ g ∷ hs) zero s =
+      (Ok h → key_sight deep S k (V.at h) (V.depth h) ≡ onward (V.at g) (V.depth g)) × Saw deep S k Ok (g ∷ hs) zero back
+      × (Ok h → back_sight deep S (taken k g) (V.at h) (V.depth h) ≡ s)
+  Saw deep S k Ok (h ∷ g ∷ hs) (suc n) s =
+      (Ok h → key_sight deep S k (V.at h) (V.depth h) ≡ onward (V.at g) (V.depth g)) × Saw deep S k Ok (g ∷ hs) n s
 
--- the nodes on the way down by smallest children, oldest first: each saw the next one, and the last saw s
-abbrev pub SawDown : ℕ → Tree → (Hold → Type 0) → Hold → List Hold → Sight → Type 0
-SawDown deep S Ok h [] s = Ok h → down_sight deep S h.ref h.depth ≡ s
-SawDown deep S Ok h (g ∷ hs) s = (Ok h → down_sight deep S h.ref h.depth ≡ aside g.ref g.depth) × SawDown deep S Ok g hs s
+  -- the nodes on the way down by smallest children, oldest first: each saw the next one, and the last saw s
+  abbrev pub SawDown : ℕ → Tree → (H → Type 0) → H → List H → Sight → Type 0
+  SawDown deep S Ok h [] s = Ok h → down_sight deep S (V.at h) (V.depth h) ≡ s
+  SawDown deep S Ok h (g ∷ hs) s = (Ok h → down_sight deep S (V.at h) (V.depth h) ≡ aside (V.at g) (V.depth g)) × SawDown deep S Ok g hs s
 
--- the newest look on the key's way saw s, and by way of the nodes below that led to the leaf i, or to none
-abbrev pub Led : ℕ → Tree → (Hold → Type 0) → Sight → List Hold → Option ℕ → Type 0
-Led deep S Ok s [] None = s ≡ back
-Led deep S Ok s [] (Some i) = s ≡ got i
-Led deep S Ok s (h ∷ hs) None = ⊥
-Led deep S Ok s (h ∷ hs) (Some i) = (s ≡ aside h.ref h.depth) × SawDown deep S Ok h hs (got i)
+  -- the newest look on the key's way saw s, and by way of the nodes below that led to the leaf i, or to none
+  abbrev pub Led : ℕ → Tree → (H → Type 0) → Sight → List H → Option ℕ → Type 0
+  Led deep S Ok s [] None = s ≡ back
+  Led deep S Ok s [] (Some i) = s ≡ got i
+  Led deep S Ok s (h ∷ hs) None = ⊥
+  Led deep S Ok s (h ∷ hs) (Some i) = (s ≡ aside (V.at h) (V.depth h)) × SawDown deep S Ok h hs (got i)

@@ -26,9 +26,9 @@ use Rattle.machine.specs.State.{State, Numbers, WordsAre, with, Restarts, Ends}
 use Rattle.machine.specs.Items.{check_by, Does}
 use Rattle.machine.specs.Steps.{is_next, after_take, pair_at, goes_back, picked, Follows, Row}
 use Rattle.machine.specs.Calls.{Call, Reply, came, started, Turns, Did}
-use Rattle.machine.specs.Runs.{Event}
-use Rattle.runs.specs.Runs.{New, Run, history}
-use Rattle.runs.specs.Told.{Told, shut, free, asked, told, Agrees}
+use Rattle.machine.specs.Runs.{Event, made, on, history}
+use Rattle.machine.specs.Told.{Told, shut, free, asked, told, Agrees}
+use Rattle.runs.specs.Runs.{New, Run}
 use Rattle.runs.specs.Named.{Feed, Names, nothing, itself, first_check, item_names, row_names, is_first_check, checks_first, feed, named_by, checked_at, named}
 use Rattle.runs.proofs.Telling.{histories_tell_lem}
 use Rattle.invariant.specs.Ghosts.{Ghosts, status_of, ghost, words_of, SoundAt}
@@ -382,10 +382,10 @@ module _ {K : Type 0} {N : Numbers} {accepts : K → Type 0} {bytes : K → List
 
   -- the newest first check of a seat is not ahead
   checked_before : {σ : State} (r : Run N accepts bytes σ) (s : ℕ) → checked_at r s ≤ length (history r)
-  checked_before (Run.made n) s = omega arith
-  checked_before (Run.on r e d) s = let l = among (checks_first s d) (length (history r)) (checked_at r s) (checked_before r s) in omega (arith, l)
+  checked_before (made n) s = omega arith
+  checked_before (on r e d) s = let l = among (checks_first s d) (length (history r)) (checked_at r s) (checked_before r s) in omega (arith, l)
 
-  checked_on : {σ τ : State} (r : Run N accepts bytes σ) (c : Call K) (p : Reply) (d : Did N accepts bytes σ τ c p) (s : ℕ) → checked_at (Run.on r (record { call = c; reply = p }) d) s ≤ length (history r)
+  checked_on : {σ τ : State} (r : Run N accepts bytes σ) (c : Call K) (p : Reply) (d : Did N accepts bytes σ τ c p) (s : ℕ) → checked_at (on r (record { call = c; reply = p }) d) s ≤ length (history r)
   checked_on r c p d s = among (checks_first s d) (length (history r)) (checked_at r s) (checked_before r s)
 
   -- the map after one call more, where f is what is named then
@@ -400,8 +400,8 @@ module _ {K : Type 0} {N : Numbers} {accepts : K → Type 0} {bytes : K → List
   Scanning m f τ = (s : ℕ) (o : Operation) (i : ℕ) (a : Answer) → τ.seats s ≡ busy o → o.task ≡ op.next → o.stage ≡ scan (suc i) a → NextSaid (λ j v. m.maps (f s) j ≡ Some v) o.key a ⊎ Unsound τ o.held (suc i)
 
   -- the maps after one call more
-  maps_on : {σ τ : State} {r : Run N accepts bytes σ} {g : Good r} (m : MapsOk r g) (c : Call K) (p : Reply) (d : Did N accepts bytes σ τ c p) (h : Good (Run.on r (record { call = c; reply = p }) d))
-      → Onward m (named (Run.on r (record { call = c; reply = p }) d)) τ h.ghosts → Scanning m (checked_at (Run.on r (record { call = c; reply = p }) d)) τ → MapsOk (Run.on r (record { call = c; reply = p }) d) h
+  maps_on : {σ τ : State} {r : Run N accepts bytes σ} {g : Good r} (m : MapsOk r g) (c : Call K) (p : Reply) (d : Did N accepts bytes σ τ c p) (h : Good (on r (record { call = c; reply = p }) d))
+      → Onward m (named (on r (record { call = c; reply = p }) d)) τ h.ghosts → Scanning m (checked_at (on r (record { call = c; reply = p }) d)) τ → MapsOk (on r (record { call = c; reply = p }) d) h
   maps_on {τ = τ} {r = r} m c p d h o s = record {
     maps = later m.maps (length (history r)) o.after;
     empty = λ k. ap (λ (f : List ℕ → Option ℕ). f k) (old 0 (omega arith)) ∙ m.empty k;
@@ -412,7 +412,7 @@ module _ {K : Type 0} {N : Numbers} {accepts : K → Type 0} {bytes : K → List
   }
     where
       n : ℕ → Option (Feed K)
-      n = named (Run.on r (record { call = c; reply = p }) d)
+      n = named (on r (record { call = c; reply = p }) d)
 
       At : (ℕ → Option (Feed K)) → ℕ → Type 0
       At f t = MapStep accepts bytes (later m.maps (length (history r)) o.after t) (later m.maps (length (history r)) o.after (suc t)) (f t)
@@ -440,7 +440,7 @@ module _ {K : Type 0} {N : Numbers} {accepts : K → Type 0} {bytes : K → List
       marks x = ap status_of (g.marks x ∙ sym (h.marks x))
 
   -- nothing is held at first
-  made_ok : {σ : State} (n : New N σ) (g : Good {K = K} {N = N} {accepts = accepts} {bytes = bytes} (Run.made n)) → MapsOk (Run.made n) g
+  made_ok : {σ : State} (n : New N σ) (g : Good {K = K} {N = N} {accepts = accepts} {bytes = bytes} (made n)) → MapsOk (made n) g
   made_ok {σ} n g = record {
     maps = λ t k. None;
     empty = λ k. refl;
@@ -579,7 +579,7 @@ module _ {K : Type 0} {N : Numbers} {accepts : K → Type 0} {bytes : K → List
                 ⊎_elim (λ d. inl (subst (λ (l : ℕ). NextSaid (λ j v. m.maps l j ≡ Some v) x.key a) v d)) (λ d. inr (unsound_stays σ τ x.held (suc i) (others_sound u x y) d)) (m.scanning u x i a y c f)
 
     -- the maps after any call
-    advance_ok : {σ τ : State} {r : Run N accepts bytes σ} {g : Good r} (m : MapsOk r g) (c : Call K) (p : Reply) (d : Did N accepts bytes σ τ c p) (v : Advance g (record { call = c; reply = p }) d) → MapsOk (Run.on r (record { call = c; reply = p }) d) v.after
+    advance_ok : {σ τ : State} {r : Run N accepts bytes σ} {g : Good r} (m : MapsOk r g) (c : Call K) (p : Reply) (d : Did N accepts bytes σ τ c p) (v : Advance g (record { call = c; reply = p }) d) → MapsOk (on r (record { call = c; reply = p }) d) v.after
     advance_ok {σ} {τ} m c p (Did.refuses c' e f q) v = maps_on m c p (Did.refuses c e f q) v.after (quiet_on τ m v.after.ghosts v.effect)
         (calm_scans τ m (λ s o b _. subst (λ (y : State). y.seats s ≡ busy o) q b) (λ x. ap (λ (y : State). y.words x) q))
     advance_ok {σ} {τ} m _ _ (Did.opens s a t k) v = maps_on m _ _ (Did.opens s a t k) v.after (quiet_on τ m v.after.ghosts v.effect) (calm_scans τ m (turned_not σ τ s idle t refl) k.words)
@@ -589,8 +589,8 @@ module _ {K : Type 0} {N : Numbers} {accepts : K → Type 0} {bytes : K → List
     advance_ok {σ} {τ} m _ _ (Did.sweeps n a w) v = maps_on m _ _ (Did.sweeps n a w) v.after (quiet_on τ m v.after.ghosts v.effect) (calm_scans τ m (λ s o b _. sym (w.seats s) ∙ b) w.words)
 
     pub maps_ok : {σ : State} (r : Run N accepts bytes σ) → MapsOk r (good_run law r)
-    maps_ok (Run.made n) = made_ok n (good_run law (Run.made n))
-    maps_ok (Run.on r e d) = other_good (good_run law (Run.on r e d)) (advance_ok (maps_ok r) e.call e.reply d (advance law (good_run law r) e d))
+    maps_ok (made n) = made_ok n (good_run law (made n))
+    maps_ok (on r e d) = other_good (good_run law (on r e d)) (advance_ok (maps_ok r) e.call e.reply d (advance law (good_run law r) e d))
 
     module _ {before : K → K → Type 0} {longest : ℕ} (c : coding.Lawful accepts before bytes longest) {σ : State} (r : Run N accepts bytes σ) (m : MapsOk r (good_run law r)) where
       -- the map before the call after t calls, replayed

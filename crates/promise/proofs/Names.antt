@@ -17,10 +17,9 @@ use Rattle.machine.specs.Choices.{decided, begun, left, key_byte}
 use Rattle.machine.specs.Items.{Does, Plain}
 use Rattle.machine.specs.Steps.{Row, Refuses, Follows, picked}
 use Rattle.machine.specs.Calls.{Call, Reply, ok, came, swept, refused, Accepted, Turns, started, Did}
-use Rattle.machine.specs.Runs.{Event}
-use Rattle.machine.specs.Told.{sweeps_of}
-use Rattle.runs.specs.Runs.{Run, history}
-use Rattle.runs.specs.Told.{Told, shut, free, asked, again_asked, stepped, turned, told, Agrees}
+use Rattle.machine.specs.Runs.{Event, made, on, history}
+use Rattle.machine.specs.Told.{sweeps_of, Told, shut, free, asked, again_asked, stepped, turned, told, Agrees}
+use Rattle.runs.specs.Runs.{Run}
 use Rattle.runs.specs.Named.{Feed, Names, nothing, itself, first_check, item_names, row_names, is_first_check, feed, named_by, checked_at, named}
 use Rattle.runs.proofs.Telling.{histories_tell_lem}
 use Rattle.invariant.specs.Ghosts.{Ghosts}
@@ -502,11 +501,11 @@ module _ {K : Type 0} {N : Numbers} {accepts : K → Type 0} {bytes : K → List
 
   module _ {σ τ : State} (r : Run N accepts bytes σ) (good : NamesOk r) (e : Event K) (d : Did N accepts bytes σ τ e.call e.reply) where
     -- what is left to say of one call more
-    ok_on : (b : ℕ) → Renames r (Run.on r e d) (e ∷ history r) b
-        → ((t b : ℕ) (q : Task) (k : K) (a : Answer) → Newest e (history r) t b q k (answers a) → (u : ℕ) × (u ≤ t) × (named (Run.on r e d) u ≡ Some (record { since = b; task = q; key = k; answer = a })))
-        → ((s : ℕ) (o : Operation) (t : Task) (k : K) (b i n : ℕ) → τ.seats s ≡ busy o → told (e ∷ history r) s ≡ asked t k b i n → NamedOpen (Run.on r e d) b t k (decided_on o.stage))
+    ok_on : (b : ℕ) → Renames r (on r e d) (e ∷ history r) b
+        → ((t b : ℕ) (q : Task) (k : K) (a : Answer) → Newest e (history r) t b q k (answers a) → (u : ℕ) × (u ≤ t) × (named (on r e d) u ≡ Some (record { since = b; task = q; key = k; answer = a })))
+        → ((s : ℕ) (o : Operation) (t : Task) (k : K) (b i n : ℕ) → τ.seats s ≡ busy o → told (e ∷ history r) s ≡ asked t k b i n → NamedOpen (on r e d) b t k (decided_on o.stage))
         → ((s : ℕ) (o : Operation) (j : ℕ) (a : Answer) (t : Task) (k : K) (b i n : ℕ) → τ.seats s ≡ busy o → o.stage ≡ scan (suc j) a → told (e ∷ history r) s ≡ asked t k b i n
-        → StepAt (e ∷ history r) (checked_at (Run.on r e d) s) b t k go) → NamesOk (Run.on r e d)
+        → StepAt (e ∷ history r) (checked_at (on r e d) s) b t k go) → NamesOk (on r e d)
     ok_on b w answered' opened' checked' = record {
       future = ahead';
       own = own';
@@ -518,17 +517,17 @@ module _ {K : Type 0} {N : Numbers} {accepts : K → Type 0} {bytes : K → List
       checked = checked';
     }
       where
-        ahead' : (t : ℕ) → suc (length (history r)) ≤ t → named (Run.on r e d) t ≡ None
-        ahead' t l = by (named (Run.on r e d) t) refl
+        ahead' : (t : ℕ) → suc (length (history r)) ≤ t → named (on r e d) t ≡ None
+        ahead' t l = by (named (on r e d) t) refl
           where
-            by : (x : Option (Feed K)) → named (Run.on r e d) t ≡ x → x ≡ None
+            by : (x : Option (Feed K)) → named (on r e d) t ≡ x → x ≡ None
             by None q = refl
             by (Some f) q = ⊎_elim (λ y. let z = good.future t (omega (arith, l)) in no_way cc) (λ y. absurd (omega (arith, l, step_below y.2))) (w.fresh t f q)
 
-        own' : (t : ℕ) (f : Feed K) → named (Run.on r e d) t ≡ Some f → (o : Outcome) × StepAt (e ∷ history r) t f.since f.task f.key o
+        own' : (t : ℕ) (f : Feed K) → named (on r e d) t ≡ Some f → (o : Outcome) × StepAt (e ∷ history r) t f.since f.task f.key o
         own' t f q = ⊎_elim (λ y. let z = good.own t f y in (z.0, step_on e z.1)) (λ y. (y.1, y.2)) (w.fresh t f q)
 
-        one' : (t u : ℕ) (f g : Feed K) → named (Run.on r e d) t ≡ Some f → named (Run.on r e d) u ≡ Some g → f.since ≡ g.since → t ≡ u
+        one' : (t u : ℕ) (f g : Feed K) → named (on r e d) t ≡ Some f → named (on r e d) u ≡ Some g → f.since ≡ g.since → t ≡ u
         one' t u f g x y i = ⊎_elim
             (λ p. ⊎_elim (λ q. good.one t u f g p q i) (λ q. w.one t u f g x y (i ∙ q.0) q.0) (w.fresh u g y))
             (λ p. w.one t u f g x y p.0 (sym i ∙ p.0))
@@ -541,13 +540,13 @@ module _ {K : Type 0} {N : Numbers} {accepts : K → Type 0} {bytes : K → List
         omega (arith, i, step_below x, x.time, told_since x.earlier x.seat f.task f.key f.since x.sweeps x.restarts x.own)
 
     -- a call that is no step
-    quiet_ok : ((t : ℕ) → named (Run.on r e d) t ≡ named r t) → ((s : ℕ) → checked_at (Run.on r e d) s ≡ checked_at r s) → ((o : Outcome) → e.reply ≡ came o → ⊥)
+    quiet_ok : ((t : ℕ) → named (on r e d) t ≡ named r t) → ((s : ℕ) → checked_at (on r e d) s ≡ checked_at r s) → ((o : Outcome) → e.reply ≡ came o → ⊥)
         → ((s : ℕ) (o : Operation) (t : Task) (k : K) (b i n : ℕ) → τ.seats s ≡ busy o → told (e ∷ history r) s ≡ asked t k b i n
-        → ((σ.seats s ≡ busy o) × (told (history r) s ≡ asked t k b i n)) ⊎ ((b ≡ length (history r)) × (o.stage ≡ op.take root 0))) → NamesOk (Run.on r e d)
-    quiet_ok same check call seat = ok_on (length (history r)) (same_names r good (Run.on r e d) (e ∷ history r) (length (history r)) same)
+        → ((σ.seats s ≡ busy o) × (told (history r) s ≡ asked t k b i n)) ⊎ ((b ≡ length (history r)) × (o.stage ≡ op.take root 0))) → NamesOk (on r e d)
+    quiet_ok same check call seat = ok_on (length (history r)) (same_names r good (on r e d) (e ∷ history r) (length (history r)) same)
         (λ t b q k a x. absurd (call (answers a) (ap (λ (y : Event K). y.reply) x.event)))
-        (λ s o t k b i n x y. ⊎_elim (λ z. open_on r (Run.on r e d) b t k (λ u f q. same u ∙ q) (λ u f q _. sym (same u) ∙ q) (decided_on o.stage) (good.opened s o t k b i n z.0 z.1))
-        (λ z. subst (λ (g : Stage). NamedOpen (Run.on r e d) b t k (decided_on g)) (sym z.1) (λ u f q j. not_yet u f (sym (same u) ∙ q) (j ∙ z.0))) (seat s o t k b i n x y))
+        (λ s o t k b i n x y. ⊎_elim (λ z. open_on r (on r e d) b t k (λ u f q. same u ∙ q) (λ u f q _. sym (same u) ∙ q) (decided_on o.stage) (good.opened s o t k b i n z.0 z.1))
+        (λ z. subst (λ (g : Stage). NamedOpen (on r e d) b t k (decided_on g)) (sym z.1) (λ u f q j. not_yet u f (sym (same u) ∙ q) (j ∙ z.0))) (seat s o t k b i n x y))
         (λ s o j a t k b i n x g y. ⊎_elim (λ z. subst (λ (v : ℕ). StepAt (e ∷ history r) v b t k go) (sym (check s)) (step_on e (good.checked s o j a t k b i n z.0 g z.1))) (λ z. let v = z.1 in no_way cc) (seat s o t k b i n x y))
 
   -- a busy seat was asked
@@ -690,7 +689,7 @@ module _ {K : Type 0} {N : Numbers} {accepts : K → Type 0} {bytes : K → List
   module _ (law : Lawful N (KeyOf accepts bytes)) where
     module _ {σ τ : State} (r : Run N accepts bytes σ) (good : NamesOk r) (s : ℕ) (o : Operation) (z : Seat) (q : Outcome) (a : Accepted accepts σ (Call.step s)) (e : σ.seats s ≡ busy o) (t : Turns σ τ s z) (w : Row N σ τ o z q) where
       abbrev after : Run N accepts bytes τ
-      after = Run.on r (the_step s q) (Did.steps s o z q a e t w)
+      after = on r (the_step s q) (Did.steps s o z q a e t w)
 
       -- what it does to its seat
       moves : Moves o z q (row_names w)
@@ -758,7 +757,7 @@ module _ {K : Type 0} {N : Numbers} {accepts : K → Type 0} {bytes : K → List
       step_ok = ok_on r good (the_step s q) (Did.steps s o z q a e t w) who.since names.renames step_answered step_opened step_checked
 
     -- every call
-    names_by : {σ τ : State} (r : Run N accepts bytes σ) → NamesOk r → (c : Call K) (p : Reply) (d : Did N accepts bytes σ τ c p) → NamesOk (Run.on r (record { call = c; reply = p }) d)
+    names_by : {σ τ : State} (r : Run N accepts bytes σ) → NamesOk r → (c : Call K) (p : Reply) (d : Did N accepts bytes σ τ c p) → NamesOk (on r (record { call = c; reply = p }) d)
     names_by r good c _ (Did.refuses c' e f q) = quiet_ok r good (record { call = c; reply = refused e }) (Did.refuses c e f q) (λ t. refl) (λ s. refl) (λ o i. no_way cc) (λ s o t k b i n x y. inl (ap (λ (m : State). m.seats s) (sym q) ∙ x, y))
     names_by r good _ _ (Did.opens s a t k) = quiet_ok r good (record { call = Call.open_seat s; reply = ok }) (Did.opens s a t k) (λ t. refl) (λ s. refl) (λ o i. no_way cc)
         (λ u o v j b i n x y. ⊎_elim (λ m. inl (m.1, m.2)) (λ m. let l = m.1 in no_way cc) (seat_turn u s free (told (history r) u) idle t o v j b i n x y))
@@ -779,7 +778,7 @@ module _ {K : Type 0} {N : Numbers} {accepts : K → Type 0} {bytes : K → List
     names_by r good _ _ (Did.sweeps n a w) = quiet_ok r good (record { call = Call.sweep; reply = swept n }) (Did.sweeps n a w) (λ t. refl) (λ s. refl) (λ o i. no_way cc) (λ s o t k b i m x y. inl (sym (w.seats s) ∙ x, y))
 
     -- what is named stays so at every call
-    stay_by : {σ τ : State} (r : Run N accepts bytes σ) → NamesOk r → (c : Call K) (p : Reply) (d : Did N accepts bytes σ τ c p) (t : ℕ) (f : Feed K) → named r t ≡ Some f → named (Run.on r (record { call = c; reply = p }) d) t ≡ Some f
+    stay_by : {σ τ : State} (r : Run N accepts bytes σ) → NamesOk r → (c : Call K) (p : Reply) (d : Did N accepts bytes σ τ c p) (t : ℕ) (f : Feed K) → named r t ≡ Some f → named (on r (record { call = c; reply = p }) d) t ≡ Some f
     stay_by r good c _ (Did.refuses c' e f q) v m n = n
     stay_by r good _ _ (Did.opens s a t k) v m n = n
     stay_by r good _ _ (Did.closes s a t k) v m n = n
@@ -788,7 +787,7 @@ module _ {K : Type 0} {N : Numbers} {accepts : K → Type 0} {bytes : K → List
     stay_by r good _ _ (Did.sweeps n a w) v m i = i
 
     pub names_ok : {σ : State} (r : Run N accepts bytes σ) → NamesOk r
-    names_ok (Run.made n) = record {
+    names_ok (made n) = record {
       future = λ t l. refl;
       own = λ t f e. no_way cc;
       one = λ t u f g e q i. no_way cc;
@@ -798,8 +797,8 @@ module _ {K : Type 0} {N : Numbers} {accepts : K → Type 0} {bytes : K → List
       opened = λ s o t k b e m x y. no_way cc;
       checked = λ s o i a t k b e m x g y. no_way cc;
     }
-    names_ok (Run.on r e d) = names_by r (names_ok r) e.call e.reply d
+    names_ok (on r e d) = names_by r (names_ok r) e.call e.reply d
 
     -- a named step stays named
-    pub names_stay : {σ τ : State} (r : Run N accepts bytes σ) (e : Event K) (d : Did N accepts bytes σ τ e.call e.reply) (t : ℕ) (f : Feed K) → named r t ≡ Some f → named (Run.on r e d) t ≡ Some f
+    pub names_stay : {σ τ : State} (r : Run N accepts bytes σ) (e : Event K) (d : Did N accepts bytes σ τ e.call e.reply) (t : ℕ) (f : Feed K) → named r t ≡ Some f → named (on r e d) t ≡ Some f
     names_stay r e d t f n = stay_by r (names_ok r) e.call e.reply d t f n

@@ -8,6 +8,7 @@ use Rattle.model_words.specs.Words.{Every}
 use Rattle.machine.specs.State.{State, Numbers}
 use Rattle.machine.specs.Steps.{Row}
 use Rattle.machine.specs.Calls.{Call, came, refused, Did, Fits, Turns}
+use Rattle.machine.specs.Runs.{on}
 use Rattle.runs.specs.Runs.{Run}
 use Rattle.machine.specs.Kept.{Counted, Kept}
 use Rattle.machine.proofs.Keeping.{steps_keep_lem}
@@ -73,7 +74,7 @@ module _ {K : Type 0} {N : Numbers} {accepts : K → Type 0} {bytes : K → List
           let b = p.alone.busy' in
           let same : p.alone.operation ≡ o = cc in
           let st : Step N (KeyOf accepts bytes) τ υ g.ghosts s o (busy u) q = record { lawful = law; inv = g.inv; seat = seat_below g.inv s o was; was = was; turns = t } in
-          let later : Run N accepts bytes υ = Run.on p.run (record { call = Call.step s; reply = came q }) (Did.steps s o (busy u) q f was t w) in
+          let later : Run N accepts bytes υ = on p.run (record { call = Call.step s; reply = came q }) (Did.steps s o (busy u) q f was t w) in
           record {
             run = later;
             alone = record { operation = u; busy' = t.there; others = still_alone p.alone t };

@@ -3,9 +3,9 @@ use Rattle.std.specs.Prelude.{◌≡◌, ℕ, suc, ◌≤◌, List, ◌∷◌, �
 use Rattle.model.specs.Operations.{Task, Answer, Outcome, answers}
 use Rattle.machine.specs.State.{State, Numbers}
 use Rattle.machine.specs.Calls.{Call, came}
-use Rattle.machine.specs.Runs.{Event}
-use Rattle.runs.specs.Runs.{Run, history}
-use Rattle.runs.specs.Told.{asked, told}
+use Rattle.machine.specs.Runs.{Event, history}
+use Rattle.machine.specs.Told.{asked, told}
+use Rattle.runs.specs.Runs.{Run}
 use Rattle.promise.specs.Map.{Map, Empty, Fed}
 use Rattle.runs.specs.Named.{Feed, named}
 

@@ -2,7 +2,7 @@
 use Rattle.std.specs.Prelude.{◌≡◌, ℕ, List, Some}
 use Rattle.machine.specs.State.{State, Numbers}
 use Rattle.machine.specs.Calls.{Did}
-use Rattle.machine.specs.Runs.{Event}
+use Rattle.machine.specs.Runs.{Event, on}
 use Rattle.runs.specs.Runs.{Run}
 use Rattle.promise.specs.Answers.{Answered}
 use Rattle.runs.specs.Named.{Feed, named}
@@ -18,4 +18,4 @@ module _ {K : Type 0} (N : Numbers) (accepts : K → Type 0) (before : K → K �
   pub record Promise : Type 0 where
     pub kept : {σ : State} (r : Run N accepts bytes σ) → Kept r
     -- a named step stays named as the run goes on
-    pub stays : {σ τ : State} (r : Run N accepts bytes σ) (e : Event K) (d : Did N accepts bytes σ τ e.call e.reply) (t : ℕ) (f : Feed K) → named r t ≡ Some f → named (Run.on r e d) t ≡ Some f
+    pub stays : {σ τ : State} (r : Run N accepts bytes σ) (e : Event K) (d : Did N accepts bytes σ τ e.call e.reply) (t : ℕ) (f : Feed K) → named r t ≡ Some f → named (on r e d) t ≡ Some f

@@ -10,7 +10,7 @@ use Rattle.machine.specs.State.{State, Numbers}
 use Rattle.machine.specs.Items.{Does}
 use Rattle.machine.specs.Steps.{NoRoom, Follows, Row}
 use Rattle.machine.specs.Calls.{Call, Reply, Did}
-use Rattle.machine.specs.Runs.{first_slot}
+use Rattle.machine.specs.Runs.{first_slot, made, on}
 use Rattle.runs.specs.Runs.{Run}
 
 -- what an item of a seat's course does to slots, the last first
@@ -70,8 +70,8 @@ module _ {K : Type 0} {N : Numbers} {accepts : K → Type 0} {bytes : K → List
 
   -- what happened to slots in a run, the last first
   abbrev pub events : {σ : State} → Run N accepts bytes σ → List Event
-  events (Run.made n) = []
-  events (Run.on r e d) = happened d ++ events r
+  events (made n) = []
+  events (on r e d) = happened d ++ events r
 
 -- the slots of the pools
 abbrev pub in_pool : Numbers → Ref → Bool

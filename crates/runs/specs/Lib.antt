@@ -1,4 +1,3 @@
 pub mod Runs
-pub mod Told
 pub mod Happened
 pub mod Named

@@ -9,8 +9,9 @@ use Rattle.machine.specs.State.{State, Numbers}
 use Rattle.machine.specs.Items.{Does}
 use Rattle.machine.specs.Steps.{Row}
 use Rattle.machine.specs.Calls.{Call, Reply, Did}
-use Rattle.runs.specs.Runs.{Run, history}
-use Rattle.runs.specs.Told.{Told, shut, free, asked, told}
+use Rattle.machine.specs.Runs.{made, on, history}
+use Rattle.machine.specs.Told.{Told, shut, free, asked, told}
+use Rattle.runs.specs.Runs.{Run}
 
 -- an operation, by how many calls came before its begin, with what it was asked and what it answers
 pub record Feed (K : Type 0) : Type 0 where
@@ -104,8 +105,8 @@ named_by t now first w (first_check a) rest = cond (t == first) (feed w a) rest
 module _ {K : Type 0} {N : Numbers} {accepts : K → Type 0} {bytes : K → List ℕ} where
   -- when the seat's newest first check was, by the number of calls before it
   abbrev pub checked_at : {σ : State} → Run N accepts bytes σ → ℕ → ℕ
-  checked_at (Run.made n) u = 0
-  checked_at (Run.on r e d) u = cond (checks_first u d) (length (history r)) (checked_at r u)
+  checked_at (made n) u = 0
+  checked_at (on r e d) u = cond (checks_first u d) (length (history r)) (checked_at r u)
 
   abbrev pub named_on : {σ : State} → Run N accepts bytes σ → (ℕ → ℕ) → ℕ → Option (ℕ × Names) → Option (Feed K) → Option (Feed K)
   named_on r first t None rest = rest
@@ -113,5 +114,5 @@ module _ {K : Type 0} {N : Numbers} {accepts : K → Type 0} {bytes : K → List
 
   -- the operation that a call is named for, by the number of calls before it
   abbrev pub named : {σ : State} → Run N accepts bytes σ → ℕ → Option (Feed K)
-  named (Run.made n) t = None
-  named (Run.on r e d) t = named_on r (checked_at (Run.on r e d)) t (step_names d) (named r t)
+  named (made n) t = None
+  named (on r e d) t = named_on r (checked_at (on r e d)) t (step_names d) (named r t)

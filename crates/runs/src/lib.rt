@@ -2,12 +2,13 @@
 
 #![tactic(auto)]
 
-ghost use Rattle.runs.specs.Told.{HistoriesTell};
+ghost use Rattle.machine.specs.Told.{HistoriesTell};
+ghost use Rattle.runs.specs.Runs.{New};
 
 use keys::Coding;
 
 /// The history of a run tells how many calls were accepted, the epoch, and what each seat is: closed, idle, or busy with
 /// what it was asked, and how many calls came before its begin.
 pub fn histories_tell<C: Coding>()
-    ensures { HistoriesTell C.accepts C.bytes }
+    ensures { HistoriesTell New C.accepts C.bytes }
 {}

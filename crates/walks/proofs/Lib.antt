@@ -1,4 +1,0 @@
-pub mod Snapshot
-pub mod Walks
-pub mod Laws
-pub mod Same

@@ -1,4 +1,0 @@
-pub mod Look
-pub mod Next
-pub mod Walk
-pub mod Laws
