@@ -1,6 +1,6 @@
 -- Rules of what a stage meets.
 use Rattle.std.proofs.Common.{◌≡◌, true, is_some, Ok, Err, Result, MatchResult, sym, refl, ap, subst}
-use Rattle.keys.specs.declared.code.Code.{Code}
+use Rattle.keys.specs.Room.{Code}
 use Rattle.latches.specs.Rules.{Face}
 use Rattle.index.specs.declared.operation.Met.{Met}
 use Rattle.index.specs.declared.operation.Operation.{Operation}

@@ -1,7 +1,7 @@
 -- What each call does to the whole index.
 use Rattle.std.specs.Prelude.{◌≡◌, ℕ, ◌+◌, Bool, true, false, cond, List, replicate, Some, None, Ok, Err, Decides, Option, Result, nat_le, slice_index_or, slice_set}
-use Rattle.keys.specs.Codes.{coded}
-use Rattle.keys.specs.declared.code.Code.{Code}
+use Rattle.inline_bytes.specs.Held.{bytes_of}
+use Rattle.keys.specs.Room.{Code}
 use Rattle.keys.specs.declared.coding.Coding as Coding
 use Rattle.latches.specs.Rules.{Face}
 use Rattle.latches.specs.declared.latch.Latch as Latch
@@ -107,7 +107,7 @@ pub record Begun {K : Type 0} (accepts : K → Type 0) (bytes : K → List ℕ) 
   pub accepted : accepts k
   pub none : begin_refusal s false σ ≡ None
   pub code : Code
-  pub noted : coded code ≡ bytes k
+  pub noted : bytes_of code ≡ bytes k
   pub after : τ ≡ with_seat s (Busy (record { task = t; key = code; begun = σ.tree.epoch; stage = Take })) σ
 
 -- a begin that is refused, its key counting as the coding has it

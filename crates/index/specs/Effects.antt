@@ -1,8 +1,8 @@
 -- What each stage does to the tree, by the meaning of the root's word.
 use Rattle.std.specs.Prelude.{◌≡◌, ℕ, List, [], ◌∷◌, ◌++◌, Some, None, Ok, Err, Option, Result, slice_index_or, slice_set}
 use Rattle.std.specs.List.{slice_get}
-use Rattle.keys.specs.Codes.{coded}
-use Rattle.keys.specs.declared.code.Code.{Code}
+use Rattle.inline_bytes.specs.Held.{bytes_of}
+use Rattle.keys.specs.Room.{Code}
 use Rattle.latches.specs.declared.word.Permit.{Permit}
 use Rattle.latches.specs.Rules.{Face, Freed, take_refusal, check_refusal, lock_refusal, noted, shared, returned, held}
 use Rattle.terms.specs.declared.Cause.{Cause}
@@ -35,8 +35,8 @@ Under t k None Nothing = Unit {0}
 Under t k None (Same v) = ⊥
 Under t k None Other = ⊥
 Under t k (Some l) Nothing = ⊥
-Under t k (Some l) (Same v) = (coded (leaf_at t l).key ≡ k) × (v ≡ (leaf_at t l).value)
-Under t k (Some l) Other = coded (leaf_at t l).key ≡ k → ⊥
+Under t k (Some l) (Same v) = (bytes_of (leaf_at t l).key ≡ k) × (v ≡ (leaf_at t l).value)
+Under t k (Some l) Other = bytes_of (leaf_at t l).key ≡ k → ⊥
 
 abbrev pub LookedAt : Tree → List ℕ → Option ℕ → Option Sight → Type 0
 LookedAt t k None None = Unit {0}

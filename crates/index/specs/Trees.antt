@@ -1,6 +1,7 @@
 -- The memory of a tree, as its contracts read it.
 use Rattle.std.specs.Prelude.{◌≡◌, ℕ, List, [], replicate, None, slice_index_or}
 use Rattle.std.specs.List.{range_with_len}
+use Rattle.inline_bytes.specs.Held.{no_bytes}
 use Rattle.latches.specs.Rules.{zero_word}
 use Rattle.pools.specs.Contents.{contents}
 use Rattle.pools.specs.Spare.{spare}
@@ -18,7 +19,7 @@ retired_of t = contents t.records t.retired
 
 -- what a slot holds that no leaf was put into
 abbrev pub no_leaf : Leaf
-no_leaf = record { key = record { bytes = []; len = 0 }; value = 0 }
+no_leaf = record { key = no_bytes; value = 0 }
 
 abbrev pub leaf_at : Tree → ℕ → Leaf
 leaf_at t i = slice_index_or t.leaves i no_leaf

@@ -1,21 +1,20 @@
 ghost use Rattle.std.specs.Prelude.{◌≡◌};
 ghost use Rattle.index.specs.Meets.{Meets};
 
-use crate::operation::{Met, Stage};
+use crate::operation::{Met, Operation, Stage};
 use crate::tree::Tree;
-use keys::Code;
 use latches::Latch;
 use terms::Cause;
 
 impl Tree {
-    /// Does what a stage does to the tree, for an operation with this key.
-    pub(crate) fn meet<L: Latch>(&mut self, key: Code, stage: Stage) -> Met
+    /// Does to the tree what the stage of an operation does.
+    pub(crate) fn meet<L: Latch>(&mut self, op: &Operation) -> Met
         ensures epoch { self.new.epoch ≡ self.old.epoch }
-        ensures met { Meets L.face key self.old self.new stage result }
+        ensures met { Meets L.face op.now.key self.old self.new op.now.stage result }
     {
-        match stage {
+        match op.stage {
             Stage::Take => self.take::<L>().map_or_else(Met::Refused, Met::Granted),
-            Stage::Look(permit) => match self.look(&key) {
+            Stage::Look(permit) => match self.look(&op.key) {
                 Some(sight) => Met::Saw(sight),
                 None => {
                     self.give_back::<L>(permit);
@@ -29,10 +28,10 @@ impl Tree {
                 .lock::<L>(permit)
                 .map_or_else(Met::Refused, |()| Met::Done),
             Stage::Draw(course) => self
-                .draw::<L>(key, course)
+                .draw::<L>(&op.key, course)
                 .map_or_else(Met::NoRoom, Met::Drew),
             Stage::Write(leaf) => {
-                self.write(&key, leaf);
+                self.write(&op.key, leaf);
                 Met::Done
             }
             Stage::Unlock => {

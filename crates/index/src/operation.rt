@@ -19,7 +19,7 @@ pub enum Course {
 }
 
 /// What the next step of an operation does, and what that step needs to know.
-#[derive(Clone, Copy)]
+#[derive(Clone, Copy, Debug, PartialEq, Eq)]
 pub enum Stage {
     Take,
     Look(Permit),
@@ -39,7 +39,7 @@ pub enum Sight {
 }
 
 /// What a step meets.
-#[derive(Clone, Copy)]
+#[derive(Clone, Copy, Debug, PartialEq, Eq)]
 pub enum Met {
     /// A latch, or a look that came too late, refused; what was held is given back.
     Refused(Cause),
@@ -56,7 +56,7 @@ pub enum Met {
 }
 
 /// An operation that is open.
-#[derive(Clone, Copy)]
+#[derive(Clone, Copy, Debug, PartialEq, Eq)]
 pub struct Operation {
     pub(crate) task: Task,
     pub(crate) key: Code,

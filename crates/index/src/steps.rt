@@ -1,7 +1,7 @@
 //! What each stage does to the tree, its latch and its pool. A refusal gives back what was held.
 
 ghost use Rattle.std.specs.Prelude.{◌≡◌, [], None, slice_index_or};
-ghost use Rattle.keys.specs.Codes.{coded};
+ghost use Rattle.inline_bytes.specs.Held.{bytes_of};
 ghost use Rattle.std.specs.List.{range_with_len};
 ghost use Rattle.index.specs.Effects.{Taken, Looked, GaveBack, Checked, LockedNow, DrawnFor, LeafDrawn, NothingDrawn, Written, Unlocked};
 ghost use Rattle.index.specs.Trees.{Made, no_leaf};
@@ -15,7 +15,7 @@ use terms::{Cause, Kind};
 
 // The leaf in a slot; past the end a leaf of no key.
 fn leaf_in(leaves: &[Leaf], slot: u16) -> Leaf
-    ensures key { coded result.key ≡ coded (slice_index_or leaves.now slot no_leaf).key }
+    ensures key { bytes_of result.key ≡ bytes_of (slice_index_or leaves.now slot no_leaf).key }
     ensures value { result.value ≡ (slice_index_or leaves.now slot no_leaf).value }
 {
     leaves.get(usize::from(slot)).copied().unwrap_or(Leaf {
@@ -56,14 +56,14 @@ impl Tree {
 
     /// What stands under the key's byte, or none where the key has ended.
     pub(crate) fn look(&self, key: &Code) -> Option<Sight>
-        ensures { Looked self.now (coded key.now) result }
+        ensures { Looked self.now (bytes_of key.now) result }
     {
         let byte = key.byte(0)?;
         let Some(slot) = self.children[usize::from(byte)] else {
             return Some(Sight::Nothing);
         };
         let leaf = leaf_in(&self.leaves, slot);
-        if leaf.key.same(key) {
+        if leaf.key == *key {
             Some(Sight::Same(leaf.value))
         } else {
             Some(Sight::Other)
@@ -101,11 +101,11 @@ impl Tree {
     }
 
     /// Draws what the course needs and fills it in, or says which pool has no spare slot.
-    pub(crate) fn draw<L: Latch>(&mut self, key: Code, course: Course) -> Result<u16, Kind>
-        ensures { DrawnFor L.face key self.old self.new course result }
+    pub(crate) fn draw<L: Latch>(&mut self, key: &Code, course: Course) -> Result<u16, Kind>
+        ensures { DrawnFor L.face key.now self.old self.new course result }
     {
         match course {
-            Course::Insert(value) => self.draw_leaf::<L>(Leaf { key, value }),
+            Course::Insert(value) => self.draw_leaf::<L>(Leaf { key: *key, value }),
             Course::Split(_) => Err(self.draw_none::<L>()),
         }
     }
@@ -140,7 +140,7 @@ impl Tree {
 
     /// Links the leaf under the key's byte.
     pub(crate) fn write(&mut self, key: &Code, leaf: u16)
-        ensures { Written (coded key.now) leaf self.old self.new }
+        ensures { Written (bytes_of key.now) leaf self.old self.new }
     {
         if let Some(byte) = key.byte(0) {
             self.children[usize::from(byte)] = Some(leaf);

@@ -7,7 +7,7 @@ use pools::{Queue, Slots};
 pub const LEAVES: usize = 512;
 
 /// A key's bytes with their value. Never written once linked.
-#[derive(Clone, Copy)]
+#[derive(Clone, Copy, Debug, PartialEq, Eq)]
 pub struct Leaf {
     pub(crate) key: Code,
     pub(crate) value: u32,

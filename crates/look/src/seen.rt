@@ -12,7 +12,7 @@ pub enum Met {
 }
 
 /// What a look at a node sees.
-#[derive(Clone, Copy)]
+#[derive(Clone, Copy, Debug, PartialEq, Eq)]
 pub enum Seen {
     /// The key does not go on past the prefix, or no key is long enough to.
     Stale,

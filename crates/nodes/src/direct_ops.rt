@@ -24,6 +24,7 @@ impl Branch for Direct {
         self.children[usize::from(byte)]
     }
 
+    // Both layouts by byte scan so: a shared function over `Branch` would call back into this impl, which the check does not cover.
     fn from(&self, start: u16) -> Option<Edge> {
         for i in start..256 {
             let byte = i as u8;

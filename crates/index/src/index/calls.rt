@@ -130,9 +130,9 @@ impl<C: Coding, L: Latch> Index<C, L> {
             return Err(Refusal::NoOperation);
         };
         self.count_call()?;
-        let met = self.tree.meet::<L>(op.key, op.stage);
-        let outcome = self.seats[at].advance(op, met);
-        Ok(outcome)
+        let Index { tree, seats, .. } = self;
+        let met = tree.meet::<L>(&op);
+        Ok(seats[at].advance(op, met))
     }
 
     /// Starts a new epoch, and says how many retired slots turned spare.

@@ -20,7 +20,7 @@ pub returns-in-Lock-clause-met : goal.returns-in-Lock-clause-met
 returns-in-Lock-clause-met g c = met_by (LockedNow g.L.Latch.face c.in-Lock.permit c.args.self.now c.lock.new.self) c.in-Lock.is (λ _. Meets.locked) (λ _. Meets.not_locked) c.lock.ensures (search rules)
 
 pub returns-in-Draw-clause-met : goal.returns-in-Draw-clause-met
-returns-in-Draw-clause-met g c = met_by (DrawnFor g.L.Latch.face c.args.key c.args.self.now c.draw.new.self c.in-Draw.course) c.in-Draw.is (λ _. Meets.drew) (λ _. Meets.no_room) c.draw.ensures (search rules)
+returns-in-Draw-clause-met g c = met_by (DrawnFor g.L.Latch.face c.args.op.now.key c.args.self.now c.draw.new.self c.in-Draw.course) c.in-Draw.is (λ _. Meets.drew) (λ _. Meets.no_room) c.draw.ensures (search rules)
 
 pub returns-in-Write-clause-met : goal.returns-in-Write-clause-met
 returns-in-Write-clause-met g c = at_stage c.in-Write.is (Meets.wrote c.write.ensures)
