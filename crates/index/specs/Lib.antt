@@ -6,3 +6,4 @@ pub mod Effects
 pub mod Meets
 pub mod Sweeps
 pub mod Calls
+pub mod New

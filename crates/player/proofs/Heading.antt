@@ -1,13 +1,10 @@
 -- What line 1 of a script makes of its history.
-use Rattle.std.proofs.Common.{◌≡◌, ℕ, ◌≤◌, Bool, true, false, List, [], ◌∷◌, ◌++◌, length, take, replicate, Some, None, Option, Ok, Err, Bor, Result, sym, refl, ap, ◌∙◌, subst, append-nil, arith}
-use Rattle.std.proofs.lemmas.List.{length-take, take_all}
-use Rattle.std.proofs.lemmas.List.FromFn.{length-range_with_len}
+use Rattle.std.proofs.Common.{◌≡◌, ℕ, ◌≤◌, Bool, true, false, List, [], ◌∷◌, ◌++◌, length, take, Some, None, Option, Ok, Err, Bor, Result, sym, refl, ap, ◌∙◌, subst, append-nil, arith}
+use Rattle.std.proofs.lemmas.List.{length-take}
 use Rattle.std.proofs.lemmas.Bool.{le-ltb}
-use Rattle.std.specs.List.{range_with_len}
 use Rattle.std.specs.Option.{MatchOption, unwrap_or}
 use Rattle.std.specs.Result.{result_and}
 use Rattle.terms.specs.declared.Refusal.{Refusal}
-use Rattle.latches.specs.Rules.{zero_word}
 use Rattle.script.specs.declared.header.Header.{Header}
 use Rattle.script.specs.declared.header.CodingName.{CodingName}
 use Rattle.script.specs.declared.header.CodingName.TheVariants.{Number, Text}
@@ -15,29 +12,9 @@ use Rattle.script.specs.declared.header.LatchName.{LatchName}
 use Rattle.script.specs.declared.header.LatchName.TheVariants.{Optimistic, Coupling}
 use Rattle.script.specs.declared.reply.Done.TheVariants.{Accepted}
 use Rattle.script.specs.Header.{header_of}
-use Rattle.index.specs.declared.seat.Seat.TheVariants.{Closed}
-use Rattle.index.specs.Calls.{State, NewIndex}
-use Rattle.terms.specs.Limits.{seat_count}
-use Rattle.index.specs.Sizes.{leaf_count}
-use Rattle.index.specs.Trees.{no_leaf, no_record}
+use Rattle.index.specs.New.{new_state, new_state_new}
 use Rattle.player.specs.Histories.{longest_script, lines_of, first_line, other_lines, printed, stopped, PlayedBy, Headed, History, WroteAll, PassedEnd, AddedAll, AddedPart}
 use Rattle.player.proofs.Buffers.{Filled, Cut, filled_more, cut_more}
-
--- an index that was just made
-new_state : State
-new_state =
-    record {
-      tree = record { children = replicate 256 None; word = zero_word; leaves = replicate leaf_count no_leaf; table = range_with_len 0 leaf_count; slots = record { queue = record { head = 0; len = leaf_count }; owed = 0 }; records = replicate leaf_count no_record; retired = record { head = 0; len = 0 }; epoch = 0 };
-      seats = replicate seat_count Closed;
-      calls = 0;
-    }
-
-whole_table : (n : ℕ) → take n (range_with_len 0 n ++ []) ≡ range_with_len 0 n
-whole_table n = ap (take n) (append-nil (range_with_len 0 n)) ∙ take_all n (range_with_len 0 n) (omega (arith, length-range_with_len 0 n))
-
-new_state_new : NewIndex new_state
-unfolding new_state
-new_state_new = record { tree = record { children = refl; word = refl; spare = whole_table leaf_count; retired = refl; epoch = refl }; seats = refl; calls = refl }
 
 -- no line played yet
 unplayed : (c : CodingName) (l : LatchName) (ls : List (List ℕ)) → PlayedBy c l ls [] false

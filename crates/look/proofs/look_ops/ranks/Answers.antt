@@ -1,6 +1,3 @@
-use Rattle.std.proofs.Common.{arith, length, sym, ap, drop}
-use Rattle.inline_bytes.specs.Held.{bytes_of}
-use Rattle.nodes.specs.Kept.{kept}
 use Rattle.look.proofs.Meeting.{parts_inside}
 use Rattle.look.proofs.look_ops.ranks.Goals as goal
 
