@@ -8,6 +8,7 @@ use terms::Cause;
 
 impl Tree {
     /// Does to the tree what the stage of an operation does.
+    // A match and no stored closure: stages are data in seats that are copied, and there is no heap.
     pub(crate) fn meet<L: Latch>(&mut self, op: &Operation) -> Met
         ensures epoch { self.new.epoch ≡ self.old.epoch }
         ensures met { Meets L.face op.now.key self.old self.new op.now.stage result }

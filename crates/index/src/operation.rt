@@ -38,7 +38,7 @@ pub enum Sight {
     Other,
 }
 
-/// What a step meets.
+/// What a step meets. One enum and no `Result` around it: the machine matches stage and meeting together.
 #[derive(Clone, Copy, Debug, PartialEq, Eq)]
 pub enum Met {
     /// A latch, or a look that came too late, refused; what was held is given back.

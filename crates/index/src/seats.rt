@@ -1,4 +1,5 @@
 //! The machine of a seat: its stage, together with what it meets, gives the next stage and the outcome.
+//! One match on both is a rule of the project.
 
 ghost use Rattle.std.specs.Prelude.{◌≡◌, true, is_some, Some};
 ghost use Rattle.index.specs.Machine.{decided, busy_at, clash_at_root, moved};

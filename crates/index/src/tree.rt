@@ -21,6 +21,7 @@ pub struct Retired {
 }
 
 /// The memory of the tree: the root with its word, the leaves, and which slots are spare or retired.
+/// Fixed from the start, in arrays named by slot: a rule of the project.
 #[derive(Drop)]
 pub struct Tree {
     pub(crate) children: [Option<u16>; 256],

@@ -7,6 +7,9 @@ use crate::seen::{Met, Rank, Seen};
 use keys::{Code, LONGEST_KEY};
 use nodes::{Branch, Child, Prefix};
 
+// Key and depth stay two parameters: the depth changes at each node and the key never, so a struct would be made anew
+// at each call.
+
 // The key's bytes from `d` on.
 fn rest_of(key: &Code, d: usize) -> &[u8]
     ensures { result.now ≡ drop d (bytes_of key.now) }
@@ -19,7 +22,7 @@ pub fn meets(prefix: &Prefix, key: &Code, d: usize) -> Met
     ensures { result ≡ meet (kept prefix.now) (drop d (bytes_of key.now)) }
 {
     let rest = rest_of(key, d);
-    let i = prefix.agrees(rest, 0);
+    let i = prefix.agrees(rest);
     if i >= rest.len() {
         Met::Ends
     } else if i < prefix.len() {

@@ -26,22 +26,21 @@ impl Prefix {
         self.bytes.as_slice()[i]
     }
 
-    // `n` bytes of `key` from `start` on
-    pub fn of(key: &[u8], start: usize, n: usize) -> Self
-        requires { (start + n ≤ length key.now) × (n ≤ 15) }
-        ensures { kept result ≡ take n (drop start key.now) }
+    // the prefix of these bytes
+    pub fn of(bytes: &[u8]) -> Self
+        requires { length bytes.now ≤ 15 }
+        ensures { kept result ≡ bytes.now }
     {
         Prefix {
-            bytes: InlineBytes::new(&key[start..start + n]).unwrap(),
+            bytes: InlineBytes::new(bytes).unwrap(),
         }
     }
 
-    // at how many bytes the prefix and `key` from `start` on agree
-    pub fn agrees(&self, key: &[u8], start: usize) -> usize
-        requires { start ≤ length key.now }
-        ensures { Agree (kept self.now) (drop start key.now) result }
+    // at how many bytes the prefix and the rest of a key agree
+    pub fn agrees(&self, rest: &[u8]) -> usize
+        ensures { Agree (kept self.now) rest.now result }
     {
-        let pairs = self.bytes.as_slice().iter().zip(&key[start..]);
+        let pairs = self.bytes.as_slice().iter().zip(rest);
         pairs.take_while(|(own, other)| own == other).count()
     }
 
@@ -50,7 +49,7 @@ impl Prefix {
         requires { i ≤ length (kept self.now) }
         ensures { kept result ≡ take i (kept self.now) }
     {
-        Prefix::of(self.bytes.as_slice(), 0, i)
+        Prefix::of(&self.bytes.as_slice()[..i])
     }
 
     // the bytes from place `i` on
@@ -58,7 +57,7 @@ impl Prefix {
         requires { i ≤ length (kept self.now) }
         ensures { kept result ≡ drop i (kept self.now) }
     {
-        Prefix::of(self.bytes.as_slice(), i, self.len() - i)
+        Prefix::of(&self.bytes.as_slice()[i..])
     }
 
     // this prefix, a byte, another prefix

@@ -38,9 +38,7 @@ fn play<C: ScriptKey, L: Latch>(
     ensures { Added (Replied L.face C.accepts C.bytes C.reads) (lines_of lines.entry.rest.now) out.old place.old.at out.new place.new.at result }
 {
     let mut index: Index<C, L> = Index::new();
-    let mut number: u16 = 1;
-    for line in lines {
-        number += 1;
+    for (number, line) in (2u16..).zip(lines) {
         let reply = reply_to(&mut index, line);
         put(number, reply, out, place)?;
     }
@@ -66,7 +64,7 @@ pub fn history_of(script: &[u8], out: &mut [u8]) -> Result<usize, Refusal>
     Ok(place.at)
 }
 
-// With the coding and the latch that line 1 names.
+// With the coding and the latch that line 1 names. A match and no closure: each arm picks types.
 fn play_named(
     header: Header,
     lines: Lines<'_>,

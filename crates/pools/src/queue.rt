@@ -1,5 +1,6 @@
 //! One queue for elements of every copied kind, over a table that its caller lends at each call.
-//! The queue keeps only where it begins and how long it is; the table is a ring.
+//! The queue keeps only where it begins and how long it is; the table is a ring. That the table is lent is a rule of
+//! the project, so what fits it stands in clauses: it is a fact of two values that meet only at a call.
 
 ghost use Rattle.std.specs.Prelude.{◌≡◌, ◌+◌, ◌<◌, true, false, [], ◌∷◌, ◌++◌, length, if◌then◌else◌, MatchOption, nat_lt};
 ghost use Rattle.pools.specs.Contents.{contents, Fits, first, rest};

@@ -65,6 +65,7 @@ fn read_add<'a>(rest: Option<&'a [u8]>) -> Option<Call<'a>>
     Some(Call::Add(seat, read_word(word), value as u32))
 }
 
+// Letters matched as char literals are a rule of the project.
 fn by_letter<'a>(letter: u8, rest: Option<&'a [u8]>) -> Result<Call<'a>, Refusal>
     ensures { read result ≡ call_by_letter letter (option_map (λ x. x.now) rest.entry) }
 {

@@ -62,6 +62,7 @@ impl Line {
     }
 
     // Not by `write!`, whose contract says nothing of an error: these words cannot fail.
+    // Each of the four asks that only a number and a space stand before it: no type of a line says that more plainly.
     fn put_reply(&mut self, reply: Reply)
         requires { length (line_text self.old) ≤ 11 }
         ensures { line_text self.new ≡ line_text self.old ++ words_of reply }

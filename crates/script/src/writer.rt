@@ -6,12 +6,14 @@ ghost use Rattle.script.specs.Written.{written, fits, place_after, ended, wrote}
 use terms::Refusal;
 
 /// Where the next line begins.
+// Apart from the buffer by a rule of the project: the guard borrows the place alone while the buffer is written.
 #[derive(Clone, Copy, Debug, PartialEq, Eq)]
 pub struct Place {
     pub at: usize,
 }
 
 // On drop the place goes back to the line's start, unless the line was kept.
+// A flag by a rule of the project: the guard reads it on every way out.
 struct Begun<'a> {
     place: &'a mut Place,
     start: usize,
