@@ -3,16 +3,15 @@ use Rattle.std.proofs.Common.{◌≡◌, ℕ, zero, suc, ◌<◌, Bool, true, fa
 use Rattle.std.proofs.lemmas.Bool.{cases_eq}
 use Rattle.std.specs.List.{AllByRecursion}
 use Rattle.model.specs.Bytes.{◌≼◌}
-use Rattle.model.specs.Refs.{Ref}
 use Rattle.model.specs.Tree.{Holds}
 use Rattle.model_next.specs.Look.{Held, taken}
-use Rattle.model_next.specs.Next.{FirstFrom, Snapshot}
+use Rattle.model_next.specs.Next.{FirstFrom}
 use Rattle.model_next.specs.Walk.{place}
 use Rattle.model_next.specs.Laws.{OrderLaws, TreeLaws, OneAnswer, Bad, WalkLaws, FreshLaws}
 use Rattle.model.proofs.Bytes.{snoc_byte}
 use Rattle.model.proofs.Reach
 use Rattle.model_next.proofs.Order.{first_not, first_trans, first_total, comes_first, first_comes, fork, larger_first, smaller_first, same_begins}
-use Rattle.model_next.proofs.Snapshot.{snapshot, snapshot_stands, leaf_best, min, fresh_look, fresh_look_back, fresh_look_down}
+use Rattle.model_next.proofs.Snapshot.{snapshot, leaf_best, min, fresh_look, fresh_look_back, fresh_look_down}
 use Rattle.model_next.proofs.Walks.{kept, stable, trail}
 
 pub order_stands : OrderLaws
@@ -119,10 +118,3 @@ fresh_stands {H = H} V = record {
   back = λ deep key flux ok S G k f hs n (t, b) still w o. fresh_look_back t b V (λ (x : H). T (ok x)) k still f hs n (taken V k (place f hs (suc n))) w o.0 o.1;
   down = λ deep key flux ok S G k f g hs ds n (t, b) still w o od. fresh_look_down t b V (λ (x : H). T (ok x)) k still f g hs ds n w o.0 o.1 od;
 }
-
--- nodes held with nothing more are one kind
-plain : Held (Ref × ℕ)
-plain = record { at = λ h. h.0; depth = λ h. h.1 }
-
-plain_stands : Snapshot plain × WalkLaws plain × FreshLaws plain
-plain_stands = (snapshot_stands plain, walk_stands plain, fresh_stands plain)

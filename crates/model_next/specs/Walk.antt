@@ -60,6 +60,10 @@ module _ {H : Type 0} where
 abbrev pub Stands : {H : Type 0} → Held H → H → Ref → ℕ → Type 0
 Stands V h x d = (V.at h ≡ x) × (V.depth h ≡ d)
 
+-- nodes held by where they stand alone
+abbrev pub plain : Held (Ref × ℕ)
+plain = record { at = λ h. h.0; depth = λ h. h.1 }
+
 -- nodes held with their permits
 abbrev pub held : Held Hold
 held = record { at = λ h. h.at; depth = λ h. h.depth }

@@ -4,9 +4,8 @@
 
 ghost use Rattle.model_next.specs.Examples.{Sights};
 ghost use Rattle.model_next.specs.Laws.{OrderLaws, TreeLaws, WalkLaws, FreshLaws, OneAnswer};
-ghost use Rattle.model_next.specs.Look.{Held};
 ghost use Rattle.model_next.specs.Next.{Snapshot};
-ghost use Rattle.model_next.specs.Walk.{held};
+ghost use Rattle.model_next.specs.Walk.{plain, held};
 
 /// Byte order: total, transitive, and decided where keys part.
 pub fn byte_order()
@@ -18,10 +17,10 @@ pub fn smallest_below()
     ensures { TreeLaws }
 {}
 
-/// With each permit sound at one time, the result in hand is the map's answer at that time: for every kind of held node, and
-/// for nodes held with their permits.
-pub fn snapshot_answers<H>()
-    ensures every_kind { (V : Held H) → Snapshot V }
+/// With each permit sound at one time, the result in hand is the map's answer at that time: of nodes held by where they
+/// stand alone, and of nodes held with their permits.
+pub fn snapshot_answers()
+    ensures plain { Snapshot plain }
     ensures with_permits { Snapshot held }
 {}
 
@@ -31,14 +30,14 @@ pub fn one_answer()
 {}
 
 /// What next has seen is kept to its final checks, and these pass only with the map's answer in hand.
-pub fn walk_keeps<H>()
-    ensures every_kind { (V : Held H) → WalkLaws V }
+pub fn walk_keeps()
+    ensures plain { WalkLaws plain }
     ensures with_permits { WalkLaws held }
 {}
 
 /// With each permit sound, no look is stale.
-pub fn looks_fresh<H>()
-    ensures every_kind { (V : Held H) → FreshLaws V }
+pub fn looks_fresh()
+    ensures plain { FreshLaws plain }
     ensures with_permits { FreshLaws held }
 {}
 
