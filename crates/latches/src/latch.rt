@@ -25,6 +25,10 @@ pub trait Latch {
 
     ghost face: { Face };
 
+    /// What this permit weighs: a latch may have permits of more than one weight.
+    fn weight_of(permit: Permit) -> u64
+        ensures { result ≡ face.weight permit };
+
     /// A permit, together with the word that knows of it.
     fn take(word: Word) -> Result<(Word, Permit), Cause>
         ensures { Took face word result };
@@ -52,8 +56,6 @@ pub trait Latch {
     /// Makes a word ready for a node that joins the tree.
     fn revive(word: Word) -> Word
         ensures { Revived face word result };
-
-    ghost weighs: { (p : Permit) → face.weight p ≡ WEIGHT };
 
     ghost bounded: { face.limit ≡ LIMIT };
 

@@ -73,6 +73,10 @@ impl<P: Packing> Latch for P {
 
     ghost face = { packed_face P.WEIGHT P.LIMIT };
 
+    fn weight_of(_permit: Permit) -> u64 {
+        P::WEIGHT
+    }
+
     fn take(word: Word) -> Result<(Word, Permit), Cause> {
         let m = unpack::<P>(word);
         if m.gone {
@@ -155,8 +159,6 @@ impl<P: Packing> Latch for P {
             word
         }
     }
-
-    ghost weighs = { λ _. refl };
 
     ghost bounded = { refl };
 
