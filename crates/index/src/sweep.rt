@@ -49,6 +49,7 @@ impl Tree {
         self.epoch += 1;
         let n = self.retired.len();
         let mut count = 0;
+        // A count of passes and no index: each takes the record that is first then.
         for _i in 0..n {
             count += u16::from(self.sweep_one(seats));
         }

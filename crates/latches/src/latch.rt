@@ -11,6 +11,7 @@ use terms::Cause;
 ///
 /// `face` is its meaning: what a word means, what a permit weighs, and how many shares may be out.
 /// A refusal changes nothing and carries the smallest cause that applies; what a call does not name stays.
+/// Word and permit stay two parameters: whether they belong together is what a latch is asked.
 /// Whatever keeps these contracts is a latch that the index is proved for.
 pub trait Latch {
     /// What a permit adds to the shares.

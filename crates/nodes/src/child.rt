@@ -1,4 +1,4 @@
-/// The kinds of node, by the number of children they have room for.
+/// The kinds of node, by the number of children they have room for. Apart from the kinds of slot, which have a leaf too.
 #[derive(Clone, Copy, Debug, PartialEq, Eq)]
 pub enum NodeKind {
     Node4,

@@ -39,7 +39,7 @@ impl Queue {
         len
     }
 
-    /// Puts an element behind the last; where the table is full it only says so.
+    /// Puts an element behind the last; where the table is full it only says so. A plain answer: nothing goes with it.
     pub fn put<E: Copy>(&mut self, table: &mut [E], x: E) -> bool
         requires { Fits table.old self.old }
         ensures fits { Fits table.new self.new }

@@ -1,4 +1,5 @@
-//! The slots of a pool: which are spare, and how many are owed. The table and the items are lent at each call.
+//! The slots of a pool: which are spare, and how many are owed. The table and the items are lent at each call, a rule of
+//! the project, so that what fits them stands in clauses.
 //! N is one more than the largest slot, and tells one pool's owed slots from another's.
 
 ghost use Rattle.std.specs.Prelude.{◌≡◌, ◌+◌, ◌^◌, ◌<◌, false, ◌&&◌, [], ◌∷◌, ◌++◌, length, if◌then◌else◌, MatchOption, nat_lt, slice_set};
@@ -82,7 +83,8 @@ impl<const N: usize> Slots<N> {
     }
 
     /// Makes a slot spare that was in use, behind all others.
-    /// Where the slot is not of this pool, or every slot is spare or owed, it only says so.
+    /// Where the slot is not of this pool, or every slot is spare or owed, it only says so: a plain answer, nothing goes
+    /// with it.
     pub fn free(&mut self, slot: u16, table: &mut [u16]) -> bool
         requires { Sound table.old self.old }
         ensures sound { Sound table.new self.new }

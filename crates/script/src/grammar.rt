@@ -69,7 +69,7 @@ fn read_add<'a>(rest: Option<&'a [u8]>) -> Option<Call<'a>>
 fn by_letter<'a>(letter: u8, rest: Option<&'a [u8]>) -> Result<Call<'a>, Refusal>
     ensures { read result ≡ call_by_letter letter (option_map (λ x. x.now) rest.entry) }
 {
-    match letter as char {
+    match char::from(letter) {
         'O' => Ok(Call::Open(read_last_seat(rest)?)),
         'C' => Ok(Call::Close(read_last_seat(rest)?)),
         'F' => read_find(rest).ok_or(Refusal::Grammar),

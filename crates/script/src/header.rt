@@ -18,7 +18,7 @@ impl TryFrom<u8> for CodingName {
     ghost try_from_gives = { λ letter name. name ≡ ok_or (coding_of letter) Grammar };
 
     fn try_from(letter: u8) -> Result<CodingName, Refusal> {
-        match letter as char {
+        match char::from(letter) {
             'n' => Ok(CodingName::Number),
             't' => Ok(CodingName::Text),
             _ => Err(Refusal::Grammar),
@@ -39,7 +39,7 @@ impl TryFrom<u8> for LatchName {
     ghost try_from_gives = { λ letter name. name ≡ ok_or (latch_of letter) Grammar };
 
     fn try_from(letter: u8) -> Result<LatchName, Refusal> {
-        match letter as char {
+        match char::from(letter) {
             'o' => Ok(LatchName::Optimistic),
             'c' => Ok(LatchName::Coupling),
             _ => Err(Refusal::Grammar),

@@ -1,6 +1,7 @@
 //! Lines written one after another into a lent buffer.
 
-ghost use Rattle.std.specs.Prelude.{◌≡◌, ◌+◌, ◌≤◌, min, length, if◌then◌else◌};
+ghost use Rattle.std.specs.Prelude.{◌≡◌, ◌+◌, ◌≤◌, min, length};
+ghost use Rattle.std.specs.Option.{unwrap_or};
 ghost use Rattle.script.specs.Written.{written, fits, place_after, ended, wrote};
 
 use terms::Refusal;
@@ -12,26 +13,20 @@ pub struct Place {
     pub at: usize,
 }
 
-// On drop the place goes back to the line's start, unless the line was kept.
-// A flag by a rule of the project: the guard reads it on every way out.
+// On drop the place goes back to the line's start, unless the line was kept: then no start is left.
 struct Begun<'a> {
     place: &'a mut Place,
-    start: usize,
-    kept: bool,
+    start: Option<usize>,
 }
 
 impl Drop for Begun<'_> {
     fn drop(self)
-        ensures { self.exit.0.now.at ≡ (if self.entry.kept then self.entry.place.now.at else self.entry.start) }
+        ensures { self.exit.0.now.at ≡ unwrap_or self.entry.start self.entry.place.now.at }
     {
-        if !self.kept {
-            self.place.at = self.start;
+        if let Some(start) = self.start {
+            self.place.at = start;
         }
-        let Begun {
-            place: _,
-            start: _,
-            kept: _,
-        } = self;
+        let Begun { place: _, start: _ } = self;
     }
 }
 
@@ -44,7 +39,6 @@ impl Begun<'_> {
         ensures bytes { out.new ≡ written out.old self.old.place.now.at piece.now }
         ensures name { self.new.place.ghost_name ≡ self.old.place.ghost_name }
         ensures start { self.new.start ≡ self.old.start }
-        ensures kept { self.new.kept ≡ self.old.kept }
     {
         let at = self.place.at;
         let n = piece.len().min(out.len() - at);
@@ -67,14 +61,10 @@ pub fn write_line(out: &mut [u8], place: &mut Place, text: &[u8]) -> Result<(), 
     if place.at > out.len() {
         return Err(Refusal::BufferEnd);
     }
-    let start = place.at;
-    let mut line = Begun {
-        place,
-        start,
-        kept: false,
-    };
+    let start = Some(place.at);
+    let mut line = Begun { place, start };
     line.put(out, text)?;
     line.put(out, b"\n")?;
-    line.kept = true;
+    line.start = None;
     Ok(())
 }

@@ -4,5 +4,5 @@ use Rattle.look.proofs.look_ops.ranks.Goals as goal
 pub at-requires : goal.at-requires
 at-requires c = (parts_inside _ _ _ c.in-Parts.ensures).0
 
-pub bounds-rest_of-i : goal.bounds-rest_of-i
-bounds-rest_of-i c = rw c.rest_of.ensures (parts_inside _ _ _ c.in-Parts.ensures).1
+pub bounds-rest-i : goal.bounds-rest-i
+bounds-rest-i c = (parts_inside _ _ _ c.in-Parts.ensures).1
