@@ -31,7 +31,7 @@ impl Branch for Placed {
 
     // Both layouts by byte scan so. A shared function over `Branch` calls back into this impl, which the check does not
     // cover, and a body in the trait wants a law that nothing stands past byte 255, which sorted nodes do not state.
-    // Each turn asks `find`; as a chain with `find_map` the proof did not close.
+    // Each turn asks `find`; a chain with `find_map` leaves a goal on its runs that no lemma of the library answers.
     fn from(&self, start: u16) -> Option<Edge> {
         for i in start..256 {
             let byte = i as u8;
