@@ -2,14 +2,12 @@
 
 #![tactic(auto)]
 
-use player::history_of;
+use player::{LONGEST_HISTORY, history_of};
 use std::io::Write;
 use std::{env, fs};
 
-const OUTPUT: usize = 524288;
-
 fn main(rt: HostRuntime) -> anyhow::Result<()> {
-    let mut out = vec![in rt.alloc(); 0u8; OUTPUT]?;
+    let mut out = vec![in rt.alloc(); 0u8; LONGEST_HISTORY]?;
     for name in env::args(&rt)?.skip(1) {
         let script = fs::read(&rt, name.as_str())?;
         println!(rt; "# {name}")?;

@@ -19,6 +19,9 @@ use terms::Refusal;
 /// The most bytes of a script.
 pub const LONGEST_SCRIPT: usize = 32768;
 
+/// Room for the longest history: no line of a script gives more than sixteen times its own bytes.
+pub const LONGEST_HISTORY: usize = 16 * LONGEST_SCRIPT;
+
 // Writes the output line of a reply.
 fn put(number: u16, reply: Reply, out: &mut [u8], place: &mut Place) -> Result<(), Refusal>
     ensures value { result ≡ wrote (fits out.old place.old.at (printed number reply)) }

@@ -7,6 +7,6 @@ mod key;
 mod lines;
 mod reply;
 
-pub use history::history_of;
+pub use history::{LONGEST_HISTORY, LONGEST_SCRIPT, history_of};
 pub use key::ScriptKey;
 pub use reply::reply_to;

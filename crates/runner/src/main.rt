@@ -3,19 +3,16 @@
 #![tactic(auto)]
 
 use anyhow::anyhow;
-use player::history_of;
+use player::{LONGEST_HISTORY, LONGEST_SCRIPT, history_of};
 use std::io::{Read, Write};
 
 /// One byte more than a script may have, so that a longer one is told from it.
-const INPUT: u64 = 32769;
-
-/// Room for the longest history: no line of a script gives more than sixteen times its own bytes.
-const OUTPUT: usize = 524288;
+const INPUT: u64 = LONGEST_SCRIPT as u64 + 1;
 
 fn main(rt: HostRuntime) -> anyhow::Result<()> {
     let mut script = Vec::new(rt.alloc());
     rt.stdin().take(INPUT).read_to_end(&mut script)?;
-    let mut out = vec![in rt.alloc(); 0u8; OUTPUT]?;
+    let mut out = vec![in rt.alloc(); 0u8; LONGEST_HISTORY]?;
     match history_of(&script, &mut out) {
         Ok(used) => rt.stdout().write_all(&out[..used])?,
         Err(_) => return Err(anyhow!("the history is longer than its buffer")),
