@@ -1,10 +1,9 @@
 -- A step of a seat, from what its parts answer.
-use Rattle.std.specs.Prelude.{◌≡◌, ℕ, ◌+◌, ◌<◌, Some, None, Ok, Err, Result, length, if◌then◌else◌, nat_lt, slice_set, slice_index_or}
-use Rattle.std.proofs.Common.{get_or, refl, sym, subst, ap, ◌∙◌, ⊎_elim, arith}
-use Rattle.std.proofs.lemmas.Bool.{cases_lt, lt-ltb, le-ltb, lt-leb}
+use Rattle.std.specs.Prelude.{◌≡◌, ℕ, ◌+◌, ◌<◌, Some, None, length, slice_set, slice_index_or}
+use Rattle.std.proofs.Common.{get_or, refl, sym, subst, ap, ◌∙◌, arith}
+use Rattle.std.proofs.lemmas.Bool.{lt-leb}
 use Rattle.std.proofs.lemmas.List.{get_or_default, get_or-set_same}
-use Rattle.terms.specs.declared.Refusal.{Refusal}
-use Rattle.terms.specs.declared.Refusal.TheVariants.{NoSuchSeat}
+use Rattle.terms.specs.Limits.{seat_count}
 use Rattle.terms.specs.declared.outcome.Outcome.{Outcome}
 use Rattle.latches.specs.Rules.{Face}
 use Rattle.index.specs.Calls.{State, seat_at, limit_row, Stepped}
@@ -16,21 +15,17 @@ use Rattle.index.specs.declared.seat.Seat.{Seat}
 use Rattle.index.specs.declared.seat.Seat.TheVariants.{Closed, Busy}
 use Rattle.index.specs.declared.tree.Tree.{Tree}
 
-placed : (s i : ℕ) → ◌≡◌ {A = Result ℕ Refusal} (Ok i) (if nat_lt s 8 then Ok s else Err NoSuchSeat) → (i ≡ s) × (s < 8)
-placed s i e = ⊎_elim (λ l. let f : ◌≡◌ {A = Result ℕ Refusal} (Ok i) (Ok s) = rw (lt-ltb s 8 l) at e in (cc f, l)) (λ g. let f : ◌≡◌ {A = Result ℕ Refusal} (Ok i) (Err NoSuchSeat) = rw (le-ltb s 8 g) at e in absurd (cc f)) (cases_lt s 8)
-
-pub stepped : (f : Face) (s i : ℕ) (σ κ : State) (u : Seat) (op : Operation) (m : Met) (next : Seat) (o : Outcome) (t : Tree) → length σ.seats ≡ 8 →
-    ◌≡◌ {A = Result ℕ Refusal} (Ok i) (if nat_lt s 8 then Ok s else Err NoSuchSeat) → get_or σ.seats i u ≡ Busy op →
+pub stepped : (f : Face) (s i : ℕ) (σ κ : State) (u : Seat) (op : Operation) (m : Met) (next : Seat) (o : Outcome) (t : Tree) → length σ.seats ≡ seat_count →
+    (i ≡ s) × (i < seat_count) → get_or σ.seats i u ≡ Busy op →
     (limit_row σ ≡ None) × (κ ≡ record σ { calls = σ.calls + 1 }) → Meets f op.key κ.tree t op.stage m → moved op m ≡ Some (next, o) →
     Stepped f s σ (record { tree = t; seats = slice_set κ.seats i next; calls = κ.calls }) o
-stepped f s i σ κ u op m next o t len at busy counted meets moves =
-    let p = placed s i at in
-    let b : seat_at σ s ≡ Busy op = get_or_default σ.seats s Closed u (omega (arith, p.1)) ∙ ap (λ k. get_or σ.seats k u) (sym p.0) ∙ busy in
+stepped f s i σ κ u op m next o t len p busy counted meets moves =
+    let b : seat_at σ s ≡ Busy op = get_or_default σ.seats s Closed u (omega (arith, p.0, p.1)) ∙ ap (λ k. get_or σ.seats k u) (sym p.0) ∙ busy in
     let q : κ.seats ≡ σ.seats = ap (λ x. x.seats) counted.1 in
     let e : slice_index_or (slice_set κ.seats i next) s Closed ≡ next =
     ap (λ k. get_or (slice_set κ.seats i next) k Closed) (sym p.0) ∙ get_or-set_same κ.seats i next Closed (omega (arith, ap length q, p.0, p.1)) in
     record {
-      none = rw (b, lt-leb 8 s p.1, counted.0) refl;
+      none = rw (b, lt-leb seat_count s (omega (arith, p.0, p.1)), counted.0) refl;
       operation = op;
       busy = b;
       met = m;

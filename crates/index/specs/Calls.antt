@@ -67,11 +67,9 @@ is_idle (Busy o) = false
 abbrev pub limit_row : State → Option Refusal
 limit_row σ = row (nat_le call_limit σ.calls) CallLimit None
 
--- what a seat that is to be idle answers
-abbrev pub idle_answer : Seat → Result (Unit {0}) Refusal
-idle_answer Closed = Err NotOpen
-idle_answer Idle = Ok tt
-idle_answer (Busy o) = Err SeatBusy
+-- the rows of a call on a seat that is to be idle, above those below
+abbrev pub idle_rows : Seat → Option Refusal → Option Refusal
+idle_rows z below = row (is_closed z) NotOpen (row (is_busy z) SeatBusy below)
 
 -- one call more is counted, unless that was the last
 abbrev pub DidCount : State → State → Result (Unit {0}) Refusal → Type 0
@@ -82,10 +80,10 @@ abbrev pub open_refusal : ℕ → State → Option Refusal
 open_refusal s σ = row (nat_le seat_count s) NoSuchSeat (row (is_open (seat_at σ s)) AlreadyOpen (limit_row σ))
 
 abbrev pub close_refusal : ℕ → State → Option Refusal
-close_refusal s σ = row (nat_le seat_count s) NoSuchSeat (row (is_closed (seat_at σ s)) NotOpen (row (is_busy (seat_at σ s)) SeatBusy (limit_row σ)))
+close_refusal s σ = row (nat_le seat_count s) NoSuchSeat (idle_rows (seat_at σ s) (limit_row σ))
 
 abbrev pub begin_refusal : ℕ → Bool → State → Option Refusal
-begin_refusal s refuses σ = row (nat_le seat_count s) NoSuchSeat (row (is_closed (seat_at σ s)) NotOpen (row (is_busy (seat_at σ s)) SeatBusy (row refuses Key (limit_row σ))))
+begin_refusal s refuses σ = row (nat_le seat_count s) NoSuchSeat (idle_rows (seat_at σ s) (row refuses Key (limit_row σ)))
 
 abbrev pub step_refusal : ℕ → State → Option Refusal
 step_refusal s σ = row (nat_le seat_count s) NoSuchSeat (row (is_closed (seat_at σ s)) NotOpen (row (is_idle (seat_at σ s)) NoOperation (limit_row σ)))

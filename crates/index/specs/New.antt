@@ -1,12 +1,12 @@
 -- A just made index, as a value.
-use Rattle.std.specs.Prelude.{◌≡◌, ℕ, ◌<◌, ◌++◌, [], length, take, replicate, None, refl}
+use Rattle.std.specs.Prelude.{◌≡◌, ℕ, ◌++◌, [], length, take, replicate, None, refl}
 use Rattle.std.specs.List.{range_with_len}
 use Rattle.std.proofs.Common.{ap, ◌∙◌, append-nil, arith}
 use Rattle.std.proofs.lemmas.List.{take_all, length-replicate}
-use Rattle.std.proofs.lemmas.List.FromFn.{length-range_with_len, get_or-range_with_len}
+use Rattle.std.proofs.lemmas.List.FromFn.{length-range_with_len}
 use Rattle.terms.specs.Limits.{seat_count}
 use Rattle.latches.specs.Rules.{zero_word}
-use Rattle.pools.specs.Spare.{Below}
+use Rattle.pools.specs.Spare.{Below, counting_below}
 use Rattle.pools.specs.declared.slots.Slots.{Slots}
 use Rattle.index.specs.Calls.{State, NewIndex}
 use Rattle.index.specs.Kept.{no_record, Ready}
@@ -22,9 +22,7 @@ abbrev new_slots : Slots leaf_count
 new_slots = record { queue = record { head = 0; len = leaf_count }; owed = 0; small = omega arith }
 
 below : (n : ℕ) → Below (take n (range_with_len 0 n ++ [])) n
-below n k l =
-    let h : k < n = omega (arith, ap length (whole_table n), length-range_with_len 0 n) in
-    rw (whole_table n, get_or-range_with_len 0 n k 0 h) (omega arith)
+below n = rw (whole_table n) (counting_below 0 n n (omega arith))
 
 new_ready : Ready (range_with_len 0 leaf_count) new_slots (replicate leaf_count no_record) (record { head = 0; len = 0 })
 new_ready =

@@ -1,6 +1,7 @@
 use Rattle.std.proofs.Common.{◌≡◌, ℕ, zero, suc, ◌+◌, ◌<◌, ◌≤◌, eqb, ◌⊎◌, List, length, get_or, set, replicate, Some, None, Option, sym, refl, ap, ◌∙◌, subst, inl, inr, ⊎_elim, arith, length-set, get_or-set_other, get_or-set_same}
 use Rattle.std.proofs.lemmas.Bool.{cases_eq, cases_lt, cond-true, cond-false, eq-eqb, ne_eqb}
 use Rattle.std.proofs.lemmas.List.{get_or_past}
+use Rattle.std.proofs.lemmas.Option.{none-some}
 use Rattle.nodes.specs.declared.child.Child.{Child}
 use Rattle.nodes.specs.View.{Changed, Taken}
 use Rattle.nodes.specs.Listed.{no_child}
@@ -24,9 +25,6 @@ some_or_none (Some p) = inl (p, refl)
 
 two : (p q : ℕ) → ◌≡◌ {A = Option ℕ} (Some p) (Some q) → p ≡ q
 two p q e = cc
-
-never : (p : ℕ) → ◌≡◌ {A = Option ℕ} None (Some p) → ⊥
-never p e = let z : ◌≡◌ {A = ℕ} 0 1 = cc in omega arith
 
 pub taken_place : (cs : List Child) (o : Option ℕ) → Taken (at_place cs o) → (p : ℕ) × (o ≡ Some p)
 taken_place cs None t = absurd t
@@ -90,7 +88,7 @@ pub record Freed (n b p : ℕ) (ps rs : List (Option ℕ)) : Type 0 where
 -- whose place it was
 freed_cases : (n b p : ℕ) (ps rs : List (Option ℕ)) → Freed n b p ps rs → (k q : ℕ) → place_of rs k ≡ Some q → (k ≡ b → ⊥) × (((place_of ps k ≡ Some n) × (q ≡ p)) ⊎ ((q ≡ n → ⊥) × (place_of ps k ≡ Some q)))
 freed_cases n b p ps rs f k q e =
-    let ne : k ≡ b → ⊥ = λ d. never q (sym f.free ∙ ap (place_of rs) (sym d) ∙ e) in (
+    let ne : k ≡ b → ⊥ = λ d. none-some q (sym f.free ∙ ap (place_of rs) (sym d) ∙ e) in (
       ne,
       ⊎_elim
           (λ (x : (m : ℕ) × (place_of ps k ≡ Some m)).
@@ -100,7 +98,7 @@ freed_cases n b p ps rs f k q e =
           let same = f.kept k ne (λ z. d (two x.0 n (sym x.1 ∙ z))) in
           inr (λ z. d (two x.0 n (sym x.1 ∙ sym same ∙ e ∙ ap Some z)), sym same ∙ e))
           (cases_eq x.0 n))
-          (λ (x : place_of ps k ≡ None). absurd (never q (sym x ∙ sym (f.kept k ne (λ z. never n (sym x ∙ z))) ∙ e)))
+          (λ (x : place_of ps k ≡ None). absurd (none-some q (sym x ∙ sym (f.kept k ne (λ z. none-some n (sym x ∙ z))) ∙ e)))
           (some_or_none (place_of ps k)),
     )
 
@@ -119,7 +117,7 @@ freed_changed n b j p ps rs cs at m t apart f =
     (λ (d : x.0 ≡ n). at_same cs p (place_of rs k) c m (f.moved k ne (x.1 ∙ ap Some d)) ∙ sym (ap (at_place cs) (x.1 ∙ ap Some d)))
     (λ (d : x.0 ≡ n → ⊥). ap (at_place cs') (f.kept k ne (λ z. d (two x.0 n (sym x.1 ∙ z)))) ∙ at_other cs p (place_of ps k) c other)
     (cases_eq x.0 n))
-    (λ (x : place_of ps k ≡ None). ap (at_place cs') (f.kept k ne (λ z. never n (sym x ∙ z))) ∙ at_other cs p (place_of ps k) c other)
+    (λ (x : place_of ps k ≡ None). ap (at_place cs') (f.kept k ne (λ z. none-some n (sym x ∙ z))) ∙ at_other cs p (place_of ps k) c other)
     (some_or_none (place_of ps k))))
 
 pub freed_inside : (n b p : ℕ) (ps rs : List (Option ℕ)) → place_of ps b ≡ Some p → Inside (n + 1) ps → Apart ps → Freed n b p ps rs → Inside n rs
@@ -180,7 +178,7 @@ pub fresh_none : (n k : ℕ) → place_of (replicate n None) k ≡ None
 fresh_none n k = get_d_one n k None
 
 pub fresh_inside : (n : ℕ) → Inside 0 (replicate n None)
-fresh_inside n k p e = absurd (never p (sym (fresh_none n k) ∙ e))
+fresh_inside n k p e = absurd (none-some p (sym (fresh_none n k) ∙ e))
 
 pub fresh_apart : (n : ℕ) → Apart (replicate n None)
-fresh_apart n j k p w = absurd (never p (sym (fresh_none n j) ∙ w.0))
+fresh_apart n j k p w = absurd (none-some p (sym (fresh_none n j) ∙ w.0))

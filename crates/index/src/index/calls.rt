@@ -1,7 +1,7 @@
 //! The calls. Each is refused by the topmost row that fits, and then leaves everything as it was.
 
-ghost use Rattle.std.specs.Prelude.{◌≡◌, ◌<◌, if◌then◌else◌, nat_lt};
-ghost use Rattle.index.specs.Calls.{state_of, seat_at, NewIndex, idle_answer, DidCount, DidOpen, DidClose, DidBegin, DidStep, DidSweep};
+ghost use Rattle.std.specs.Prelude.{◌≡◌, ◌<◌, Some, None, MatchResult, ◌≤◌};
+ghost use Rattle.index.specs.Calls.{state_of, seat_at, NewIndex, idle_rows, DidCount, DidOpen, DidClose, DidBegin, DidStep, DidSweep};
 ghost use Rattle.index.specs.declared.operation.Task.TheVariants.{Find as FindTask, Add as AddTask};
 
 use super::{CALL_LIMIT, Index, SEATS};
@@ -15,7 +15,7 @@ use terms::{Outcome, Refusal};
 
 // The place of a seat.
 fn place_of(seat: u8) -> Result<usize, Refusal>
-    ensures { result ≡ (if nat_lt seat SEATS then Ok seat else Err Refusal.NoSuchSeat) }
+    ensures { MatchResult result (λ at. (at ≡ seat) × (at < SEATS)) (λ e. (e ≡ Refusal.NoSuchSeat) × (SEATS ≤ seat)) }
 {
     let at = usize::from(seat);
     if at < SEATS {
@@ -29,7 +29,7 @@ impl<C: Coding, L: Latch> Index<C, L> {
     // Whether a seat is open with no operation.
     fn idle(&self, at: usize) -> Result<(), Refusal>
         requires { at < SEATS }
-        ensures { result ≡ idle_answer (seat_at (state_of self.now) at) }
+        ensures { MatchResult result (λ _. idle_rows (seat_at (state_of self.now) at) None ≡ None) (λ e. idle_rows (seat_at (state_of self.now) at) None ≡ Some e) }
     {
         match self.seats[at] {
             Seat::Closed => Err(Refusal::NotOpen),

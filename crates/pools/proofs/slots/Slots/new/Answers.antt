@@ -1,11 +1,7 @@
-use Rattle.std.proofs.Common.{◌≡◌, ℕ, ◌+◌, ◌<◌, ◌≤◌, length, sym, ap, ◌∙◌, subst, arith}
-use Rattle.std.specs.List.{range_with_len}
-use Rattle.std.proofs.lemmas.List.FromFn.{length-range_with_len, get_or-range_with_len}
-use Rattle.pools.specs.Spare.{Below}
+use Rattle.std.proofs.Common.{◌≡◌, length, sym, ap, ◌∙◌, subst, arith}
+use Rattle.std.proofs.lemmas.List.FromFn.{length-range_with_len}
+use Rattle.pools.specs.Spare.{Below, counting_below}
 use Rattle.pools.proofs.slots.Slots.new.Goals as goal
-
-counting_below : (a n m : ℕ) → a + n ≤ m → Below (range_with_len a n) m
-counting_below a n m h k l = let b : k < n = rw length-range_with_len at l in let e = get_or-range_with_len a n k 0 b in omega (arith, e)
 
 pub returns-clause-sound : goal.returns-clause-sound
 returns-clause-sound g c =
