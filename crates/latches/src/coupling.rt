@@ -1,11 +1,14 @@
 ghost use Rattle.std.proofs.Common.{lit≤};
 
-use crate::packed::Packing;
+use crate::packed::{Packed, Packing};
 
 /// Readers are counted in the word, and a lock waits until there are no others.
-pub struct Coupling;
+pub type Coupling = Packed<Counted>;
 
-impl Packing for Coupling {
+/// Each permit weighs one share.
+pub struct Counted;
+
+impl Packing for Counted {
     const WEIGHT: u64 = 1;
 
     const LIMIT: u64 = 512;

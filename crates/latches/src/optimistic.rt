@@ -1,11 +1,14 @@
 ghost use Rattle.std.proofs.Common.{lit≤};
 
-use crate::packed::Packing;
+use crate::packed::{Packed, Packing};
 
 /// Readers leave no trace in the word: whoever was overtaken learns it from the count.
-pub struct Optimistic;
+pub type Optimistic = Packed<Uncounted>;
 
-impl Packing for Optimistic {
+/// Permits weigh nothing.
+pub struct Uncounted;
+
+impl Packing for Uncounted {
     const WEIGHT: u64 = 0;
 
     const LIMIT: u64 = 1;

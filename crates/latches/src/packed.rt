@@ -8,6 +8,7 @@ ghost use Rattle.latches.specs.Rules.{most_shares};
 
 use crate::latch::Latch;
 use crate::word::{Meaning, Permit, Word};
+use std::marker::PhantomData;
 use terms::Cause;
 
 const LAST_COUNT: u64 = (1 << 52) - 1;
@@ -29,6 +30,12 @@ pub trait Packing {
     ghost some: { 1 ≤ LIMIT };
 
     ghost few: { LIMIT ≤ most_shares };
+}
+
+/// The latch with these numbers.
+// A type of its own, and no impl for every `Packing`: beside that, a caller's own latch would not be the only match.
+pub struct Packed<P: Packing> {
+    packing: PhantomData<P>,
 }
 
 fn unpack<P: Packing>(word: Word) -> Meaning
@@ -62,7 +69,7 @@ fn next_count(count: u64) -> u64
 }
 
 // One latch for every packing.
-impl<P: Packing> Latch for P {
+impl<P: Packing> Latch for Packed<P> {
     const WEIGHT: u64 = P::WEIGHT;
 
     const LIMIT: u64 = P::LIMIT;
