@@ -1,1 +1,1 @@
-mod Padding
+pub mod Padding

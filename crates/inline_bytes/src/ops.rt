@@ -63,13 +63,9 @@ impl<const N: usize> InlineBytes<N> {
             return Err(Full);
         }
         let end = self.len + bytes.len();
-        let mut all = self.bytes;
-        let room = &mut all[..];
+        let room = &mut self.bytes[..];
         room[self.len..end].copy_from_slice(bytes);
-        *self = InlineBytes {
-            bytes: all,
-            len: end,
-        };
+        self.len = end;
         Ok(())
     }
 }
