@@ -7,12 +7,12 @@ use player::{LONGEST_HISTORY, LONGEST_SCRIPT, history_of};
 use std::io::{Read, Write};
 
 /// One byte more than a script may have, so that a longer one is told from it.
-const INPUT: u64 = LONGEST_SCRIPT as u64 + 1;
+const INPUT: usize = LONGEST_SCRIPT + 1;
 
 fn main(rt: HostRuntime) -> anyhow::Result<()> {
-    let mut script = Vec::new(rt.alloc());
-    rt.stdin().take(INPUT).read_to_end(&mut script)?;
+    let mut script = Vec::with_capacity(rt.alloc(), INPUT)?;
     let mut out = vec![in rt.alloc(); 0u8; LONGEST_HISTORY]?;
+    rt.stdin().take(INPUT as u64).read_to_end(&mut script)?;
     match history_of(&script, &mut out) {
         Ok(used) => rt.stdout().write_all(&out[..used])?,
         Err(_) => return Err(anyhow!("the history is longer than its buffer")),
