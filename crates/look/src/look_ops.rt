@@ -7,10 +7,18 @@ use crate::seen::{Met, Rank, Seen};
 use keys::{Code, LONGEST_KEY};
 use nodes::{Branch, Child, Prefix};
 
-/// How the prefix meets the rest of a key.
-pub fn meets(prefix: &Prefix, rest: &[u8]) -> Met
-    ensures { result ≡ meet (kept prefix.now) rest.now }
+// The bytes of a key from a depth on: none past its end.
+fn rest_of(key: &Code, d: usize) -> &[u8]
+    ensures { result.now ≡ drop d (bytes_of key.now) }
 {
+    key.as_slice().get(d..).unwrap_or(&[])
+}
+
+/// How the prefix meets `key` from `d` on.
+pub fn meets(prefix: &Prefix, key: &Code, d: usize) -> Met
+    ensures { result ≡ meet (kept prefix.now) (drop d (bytes_of key.now)) }
+{
+    let rest = rest_of(key, d);
     let i = prefix.agrees(rest);
     if i >= rest.len() {
         Met::Ends
@@ -21,11 +29,12 @@ pub fn meets(prefix: &Prefix, rest: &[u8]) -> Met
     }
 }
 
-/// The order of the prefix and the rest of a key.
-pub fn ranks(prefix: &Prefix, rest: &[u8]) -> Rank
-    ensures { result ≡ rank (kept prefix.now) rest.now }
+/// The order of the prefix and `key` from `d` on.
+pub fn ranks(prefix: &Prefix, key: &Code, d: usize) -> Rank
+    ensures { result ≡ rank (kept prefix.now) (drop d (bytes_of key.now)) }
 {
-    match meets(prefix, rest) {
+    let rest = rest_of(key, d);
+    match meets(prefix, key, d) {
         Met::Parts(i) if prefix.at(i) < rest[i] => Rank::Smaller,
         Met::Parts(_) => Rank::Larger,
         Met::Ends => Rank::Ended,
@@ -41,8 +50,7 @@ pub fn look<B: Branch>(prefix: &Prefix, node: &B, key: &Code, d: usize) -> Seen
     if d >= LONGEST_KEY - len {
         return Seen::Stale;
     }
-    let rest = key.as_slice().get(d..).unwrap_or(&[]);
-    match meets(prefix, rest) {
+    match meets(prefix, key, d) {
         Met::Parts(i) => Seen::Miss(i),
         Met::Ends => Seen::Stale,
         Met::Goes(byte) => match node.find(byte) {
