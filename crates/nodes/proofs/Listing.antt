@@ -1,11 +1,10 @@
-use Rattle.std.proofs.Common.{◌≡◌, ℕ, zero, suc, ◌<◌, ◌≤◌, eqb, ◌⊎◌, List, length, take, Option, Bor, Some, None, sym, refl, ap, ◌∙◌, subst, inl, inr, ⊎_elim, arith, ltb, ltb-true, ltb-false, true, false, length-take-le, get_or-take}
+use Rattle.std.proofs.Common.{◌≡◌, ℕ, zero, suc, ◌<◌, ◌≤◌, eqb, ◌⊎◌, List, length, take, Option, Bor, Some, None, sym, refl, ap, ◌∙◌, subst, inl, inr, ⊎_elim, arith, length-take-le, get_or-take}
 use Rattle.std.proofs.lemmas.Bool.{eq-eqb, ne_eqb, cases_eq, cond-true, cond-false, cases_lt}
 use Rattle.nodes.specs.declared.child.Edge.{Edge}
-use Rattle.std.proofs.lemmas.List.{get_or_default, get_or_read}
-use Rattle.std.proofs.lemmas.List.Sorted.{IsPartitionedBy-ltb}
-use Rattle.std.specs.List.Sorted.{IsPartitionPoint, IsPartitionedBy}
+use Rattle.std.proofs.lemmas.List.{get_or_read}
+use Rattle.std.specs.List.{AllWithin, HoldsAt}
 use Rattle.std.specs.Slice.{IsItemAt}
-use Rattle.std.specs.Option.{option_copied}
+use Rattle.std.specs.Option.{MatchOption, option_copied, unwrap_or}
 use Rattle.nodes.specs.View.{First, Taken}
 use Rattle.nodes.specs.Listed.{listed, Rising, edge_at, no_edge}
 use Rattle.nodes.proofs.Views.{none_taken}
@@ -66,25 +65,26 @@ sought_after n p es k r s i m l =
     let h = s.here (omega arith) in
     ⊎_elim (λ (q : i ≡ p). inl q) (λ (q : i ≡ p → ⊥). let f = r p i (omega arith) l in inr (omega arith)) (cases_eq i p)
 
--- the bytes below k are the first ones
-pub parted : (n : ℕ) (es : List Edge) (k : ℕ) → n ≤ length es → Rising n es → IsPartitionedBy (λ (e : Edge). ltb e.byte k) (take n es)
-parted n es k m r = IsPartitionedBy-ltb (λ (e : Edge). e.byte) (take n es) k (λ i j d le l.
+-- the place of the first of them not below k, or n, is where such a search ends
+pub sought : (n : ℕ) (es : List Edge) (k : ℕ) (r : Option ℕ) → n ≤ length es → MatchOption r (AllWithin (λ (e : Edge). e.byte < k) (take n es) 0 (length (take n es))) (λ i. (i < length (take n es)) × HoldsAt (λ (e : Edge). k ≤ e.byte) (take n es) i × AllWithin (λ (e : Edge). e.byte < k) (take n es) 0 i) → (unwrap_or r n ≤ n) × Sought n (unwrap_or r n) es k
+sought n es k None m w =
+    let t = length-take-le n es m in (
+      omega arith,
+      record {
+        below = λ i l. let x = w i no_edge (omega arith) (omega arith) in let y = ap (λ (e : Edge). e.byte) (get_or-take n es i no_edge l) in omega arith;
+        here = λ l. absurd (omega arith);
+      },
+    )
+sought n es k (Some p) m w =
     let t = length-take-le n es m in
-    let x = ap (λ (e : Edge). e.byte) (get_or-take n es i d (omega arith) ∙ get_or_default es i d no_edge (omega arith)) in
-    let y = ap (λ (e : Edge). e.byte) (get_or-take n es j d (omega arith) ∙ get_or_default es j d no_edge (omega arith)) in
-    ⊎_elim
-    (λ (q : i ≡ j). let z = ap (λ i. (edge_at es i).byte) q in omega arith)
-    (λ (q : i ≡ j → ⊥). let z = r i j (omega arith) (omega arith) in omega arith)
-    (cases_eq i j))
-
--- and a search for where they end finds k's place
-pub sought : (n p : ℕ) (es : List Edge) (k : ℕ) → n ≤ length es → IsPartitionPoint (λ (e : Edge). ltb e.byte k ≡ true) (λ (e : Edge). ltb e.byte k ≡ false) (take n es) p → p ≤ n → Sought n p es k
-sought n p es k m w pn =
-    let t = length-take-le n es m in
-    record {
-      below = λ i l. let x = ltb-true _ k (w.0 i no_edge (omega arith) l) in let y = ap (λ (e : Edge). e.byte) (get_or-take n es i no_edge (omega arith)) in omega arith;
-      here = λ l. let x = ltb-false _ k (w.1 p no_edge (omega arith) (omega arith)) in let y = ap (λ (e : Edge). e.byte) (get_or-take n es p no_edge (omega arith)) in omega arith;
-    }
+    let h = w.0 in
+    let l : p < n = omega arith in (
+      omega arith,
+      record {
+        below = λ i b. let x = w.2 i no_edge (omega arith) b in let y = ap (λ (e : Edge). e.byte) (get_or-take n es i no_edge (omega arith)) in omega arith;
+        here = λ _. let x = w.1 no_edge in let y = ap (λ (e : Edge). e.byte) (get_or-take n es p no_edge l) in omega arith;
+      },
+    )
 
 -- a byte that does not stand there is absent
 pub seek_miss : (n p : ℕ) (es : List Edge) (k : ℕ) → Rising n es → Sought n p es k → (p < n → (edge_at es p).byte ≡ k → ⊥) → Absent n es k

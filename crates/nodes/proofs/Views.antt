@@ -131,6 +131,19 @@ first_one f s (Some d) (Some e) x y =
     t)
     (cases_order d.byte e.byte)
 
+one_most : (o : Option Child) → one o ≤ 1
+one_most None = omega arith
+one_most (Some c) = omega arith
+
+count_to_most : (f : View) (n : ℕ) → count_to f n ≤ n
+unfolding count_to
+count_to_most f zero = omega arith
+count_to_most f (suc n) = let i = count_to_most f n in let e = one_most (f n) in omega arith
+
+pub count_most : (f : View) → count f ≤ 256
+unfolding count
+count_most f = count_to_most f 256
+
 -- what is not full has room
 pub room_left : (b : Bool) (a n : ℕ) → b ≡ not (ltb a n) → b ≡ false → a < n
 room_left b a n e f = grind (arith, nat_tests)

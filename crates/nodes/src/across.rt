@@ -26,7 +26,10 @@ pub fn carry<A: Branch, B: Branch>(node: &A) -> B
 pub fn other<B: Branch>(node: &B, byte: u8) -> Option<Edge>
     ensures { First (without (B.Branch.view node.now) byte) 0 result }
 {
-    Edges::of(node).find(|edge| edge.byte != byte)
+    match node.from(0) {
+        Some(edge) if edge.byte == byte => node.from(u16::from(byte) + 1),
+        first => first,
+    }
 }
 
 // a node of the next larger kind, with all children of `node`

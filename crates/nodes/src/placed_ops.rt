@@ -1,6 +1,5 @@
-ghost use Rattle.std.specs.Prelude.{◌≡◌, ℕ, ◌+◌, ◌-◌, ◌<◌, ◌≤◌, true, false};
+ghost use Rattle.std.specs.Prelude.{◌≡◌, ℕ, ◌+◌, ◌-◌, ◌<◌, ◌≤◌, true, false, length, if◌then◌else◌, nat_eq, slice_index};
 ghost use Rattle.std.proofs.Common.{rules};
-ghost use Rattle.nodes.specs.Placing.{renamed};
 ghost use Rattle.nodes.specs.Kinds.{of_placed};
 
 use crate::branch::Branch;
@@ -19,14 +18,18 @@ impl Branch for Placed {
     fn new() -> Self {
         Placed {
             len: 0,
-            places: [None; 256],
+            places: [0; 256],
             children: [NO_CHILD; 48],
         }
     }
 
     fn find(&self, byte: u8) -> Option<Child> {
-        let place = self.places[usize::from(byte)]?;
-        Some(self.children[usize::from(place)])
+        let place = self.places[usize::from(byte)];
+        if place == 0 {
+            None
+        } else {
+            Some(self.children[usize::from(place) - 1])
+        }
     }
 
     // Both layouts by byte scan so. A shared function over `Branch` calls back into this impl, which the check does not
@@ -51,34 +54,38 @@ impl Branch for Placed {
             return false;
         }
         self.children[self.len] = child;
-        self.places[usize::from(byte)] = Some(self.len as u8);
+        self.places[usize::from(byte)] = self.len as u8 + 1;
         self.len += 1;
         true
     }
 
     fn replace(&mut self, byte: u8, child: Child) {
-        let place = self.places[usize::from(byte)].unwrap();
-        self.children[usize::from(place)] = child;
+        let place = self.places[usize::from(byte)];
+        self.children[usize::from(place) - 1] = child;
     }
 
     // the last child moves into the place that becomes free
     fn remove(&mut self, byte: u8) {
         let at = usize::from(byte);
-        let place = self.places[at].unwrap();
+        let place = self.places[at];
         let last = self.len - 1;
-        let old = last as u8;
-        self.places[at] = None;
-        self.places = self.places.map(|of| renamed(of, old, place));
-        self.children[usize::from(place)] = self.children[last];
+        rename(&mut self.places, self.len as u8, place);
+        self.places[at] = 0;
+        self.children[usize::from(place) - 1] = self.children[last];
         self.len = last;
     }
 
     ghost bounded = { λ node. Prim.search rules };
 }
 
-// place `old` becomes `new`, and another stays
-fn renamed(place: Option<u8>, old: u8, new: u8) -> Option<u8>
-    ensures { result ≡ renamed old new place }
+// each place `old` becomes `new`
+fn rename(places: &mut [u8; 256], old: u8, new: u8)
+    requires { 0 < old }
+    ensures whole { length places.new ≡ 256 }
+    ensures each { (k : ℕ) → slice_index places.new k ≡ (if nat_eq (slice_index places.old k) old then new else slice_index places.old k) }
 {
-    place.map(|place| if place == old { new } else { place })
+    // each is written, also one that stays, so that no turn branches
+    for i in 0..256 {
+        places[i] = if places[i] == old { new } else { places[i] };
+    }
 }

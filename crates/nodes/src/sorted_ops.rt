@@ -20,7 +20,10 @@ impl<const N: usize> Sorted<N> {
         ensures below { (k : ℕ) → k < result → (edge_at self.now.edges k).byte < byte }
         ensures here { result < self.now.len → byte ≤ (edge_at self.now.edges result).byte }
     {
-        self.edges[..self.len].partition_point(|edge| u16::from(edge.byte) < byte)
+        self.edges[..self.len]
+            .iter()
+            .position(|edge| u16::from(edge.byte) >= byte)
+            .unwrap_or(self.len)
     }
 }
 

@@ -1,7 +1,7 @@
-use Rattle.std.proofs.Common.{ltb, take, arith, rules, length-take-le}
-use Rattle.std.proofs.lemmas.List.Sorted.{IsPartitionPoint-from_clause}
+use Rattle.std.proofs.Common.{ℕ, ◌<◌, ◌≤◌, sym, subst, take, arith, rules, tests}
+use Rattle.std.proofs.lemmas.Iterator.{YieldsList-from_slice, IsFirst-from_position}
 use Rattle.nodes.specs.declared.child.Edge.{Edge}
-use Rattle.nodes.proofs.Listing.{Sought, parted, sought}
+use Rattle.nodes.proofs.Listing.{Sought, sought}
 use Rattle.nodes.proofs.sorted.Sorted.seek.Goals as goal
 
 pub returns : goal.returns
@@ -10,8 +10,6 @@ returns g c =
     let byte = c.args.byte in
     let f = s.fits in
     let w = s.whole in
-    let t = length-take-le s.len s.edges (omega arith) in
-    let b = c.partition_point.ensures.bound in
-    let point = IsPartitionPoint-from_clause (λ (e : Edge). ltb e.byte byte) (take s.len s.edges) _ c.partition_point.ensures.partitioned (parted s.len s.edges byte (omega arith) s.rising) (λ a r q k. search rules) in
-    let found : Sought s.len c.partition_point.result s.edges byte = sought s.len c.partition_point.result s.edges byte (omega arith) point (omega arith) in
-    record { within = omega arith; below = found.below; here = found.here }
+    let first = IsFirst-from_position c.position.new.self _ c.position.result (λ (e : Edge). byte ≤ e.byte) (λ (e : Edge). e.byte < byte) c.position.ensures.ran (YieldsList-from_slice (take s.len s.edges) cc) (λ x q k. search (rules, tests)) (λ x q k. search (rules, tests)) in
+    let found = subst (λ (p : ℕ). (p ≤ s.len) × Sought s.len p s.edges byte) (sym c.unwrap_or.ensures) (sought s.len s.edges byte c.position.result (omega arith) first) in
+    record { within = found.0; below = found.1.below; here = found.1.here }
