@@ -3,6 +3,7 @@ ghost use Rattle.keys.specs.Coding.{Coded, Decoded, Back, SameKey, Placed};
 ghost use Rattle.keys.specs.Laws.{Lawful};
 
 use crate::code::Code;
+use crate::order::first;
 use terms::Refusal;
 
 /// A coding of keys as bytes.
@@ -55,5 +56,5 @@ pub fn comes_before<C: Coding>(a: C::Key, b: C::Key) -> Result<bool, Refusal>
 {
     let x = C::encode(a)?;
     let y = C::encode(b)?;
-    Ok(x.as_slice() < y.as_slice())
+    Ok(first(x.as_slice(), y.as_slice()))
 }

@@ -5,6 +5,7 @@
 mod code;
 mod coding;
 mod numbers;
+mod order;
 mod text;
 mod texts;
 mod worked;
@@ -12,6 +13,7 @@ mod worked;
 pub use code::{Code, LONGEST_KEY};
 pub use coding::{Coding, comes_before, round_trip, same_key};
 pub use numbers::Numbers;
+pub use order::first;
 pub use text::Text;
 pub use texts::Texts;
 pub use worked::worked_keys;
