@@ -64,25 +64,25 @@ sound_or {H = H} ok (h ∷ hs) = go (ok h) refl (sound_or ok hs)
     go true e (inr (j, g, l, m, i, f)) = inr (suc j, g, omega arith, omega arith, i, f)
     go false e r = inr (0, h, omega arith, omega arith, refl, e)
 
-split_all : {H : Type 0} (P : H → Type 0) (hs ds : List H) → AllByRecursion P (hs ++ ds) → AllByRecursion P hs × AllByRecursion P ds
+pub split_all : {H : Type 0} (P : H → Type 0) (hs ds : List H) → AllByRecursion P (hs ++ ds) → AllByRecursion P hs × AllByRecursion P ds
 split_all P [] ds a = (tt, a)
 split_all P (h ∷ hs) ds a = let r = split_all P hs ds a.1 in ((a.0, r.0), r.1)
 
-any_default : {H : Type 0} (hs : List H) (j : ℕ) (g h : H) → j < length hs → get_or hs j g ≡ get_or hs j h
+pub any_default : {H : Type 0} (hs : List H) (j : ℕ) (g h : H) → j < length hs → get_or hs j g ≡ get_or hs j h
 any_default [] j g h l = absurd (omega arith)
 any_default (x ∷ hs) zero g h l = refl
 any_default (x ∷ hs) (suc j) g h l = any_default hs j g h (omega arith)
 
-all_at : {H : Type 0} (P : H → Type 0) (hs : List H) (j : ℕ) (h : H) → AllByRecursion P hs → j < length hs → h ≡ get_or hs j h → P h
+pub all_at : {H : Type 0} (P : H → Type 0) (hs : List H) (j : ℕ) (h : H) → AllByRecursion P hs → j < length hs → h ≡ get_or hs j h → P h
 all_at P [] j h a l e = absurd (omega arith)
 all_at P (x ∷ hs) zero h a l e = subst P (sym e) a.0
 all_at P (x ∷ hs) (suc j) h a l e = all_at P hs j h a.1 (omega arith) e
 
-not_true : (b : Bool) → T b → b ≡ false → ⊥
+pub not_true : (b : Bool) → T b → b ≡ false → ⊥
 not_true true t e = let z : ◌≡◌ {A = ℕ} 0 1 = cc e in omega arith
 not_true false t e = t
 
-turned : (b c : Bool) → (T c → T b) → b ≡ false → c ≡ false
+pub turned : (b c : Bool) → (T c → T b) → b ≡ false → c ≡ false
 turned b true f e = absurd (not_true b (f tt) e)
 turned b false f e = refl
 
