@@ -1,11 +1,11 @@
-use Rattle.std.proofs.Common.{◌≡◌, ℕ, zero, suc, ◌<◌, ◌≤◌, eqb, ◌⊎◌, List, length, take, Option, Bor, Some, None, sym, refl, ap, ◌∙◌, subst, inl, inr, ⊎_elim, arith, length-take-le, get_or-take}
+use Rattle.std.proofs.Common.{◌≡◌, ℕ, zero, suc, ◌+◌, ◌<◌, ◌≤◌, eqb, ◌⊎◌, List, length, take, Option, Bor, Some, None, sym, refl, ap, ◌∙◌, subst, inl, inr, ⊎_elim, arith, length-take-le, get_or-take}
 use Rattle.std.proofs.lemmas.Bool.{eq-eqb, ne_eqb, cases_eq, cond-true, cond-false, cases_lt}
 use Rattle.nodes.specs.declared.child.Edge.{Edge}
 use Rattle.std.proofs.lemmas.List.{get_or_read}
 use Rattle.std.specs.List.{AllWithin, HoldsAt}
 use Rattle.std.specs.Slice.{IsItemAt}
 use Rattle.std.specs.Option.{MatchOption, option_copied, unwrap_or}
-use Rattle.nodes.specs.View.{First, Taken}
+use Rattle.nodes.specs.View.{First, Taken, one, count_to}
 use Rattle.nodes.specs.Listed.{listed, Rising, edge_at, no_edge}
 use Rattle.nodes.proofs.Views.{none_taken}
 
@@ -64,6 +64,30 @@ sought_after : (n p : ℕ) (es : List Edge) (k : ℕ) → Rising n es → Sought
 sought_after n p es k r s i m l =
     let h = s.here (omega arith) in
     ⊎_elim (λ (q : i ≡ p). inl q) (λ (q : i ≡ p → ⊥). let f = r p i (omega arith) l in inr (omega arith)) (cases_eq i p)
+
+-- where a search for k ends is how many bytes below k are taken
+pub rank : (n : ℕ) (es : List Edge) (k p : ℕ) → p ≤ n → Rising n es → ((i : ℕ) → i < p → (edge_at es i).byte < k) → (p < n → k ≤ (edge_at es p).byte) → count_to (listed n es) k ≡ p
+unfolding count_to
+rank n es zero p pn r low here = ⊎_elim (λ (e : p ≡ 0). sym e) (λ (e : p ≡ 0 → ⊥). let h = low 0 (omega arith) in absurd (omega arith)) (cases_eq p 0)
+rank n es (suc k) p pn r low here =
+    ⊎_elim
+    (λ w.
+    let i = w.0 in
+    let l = w.1 in
+    let e = w.2 in
+    let one-is = ap one (listed_hit n es r i l k e) in
+    let before : i < p = ⊎_elim (λ (s : i < p). s) (λ (s : p ≤ i). let h = here (omega arith) in
+    ⊎_elim (λ (q : i ≡ p). let f = ap (λ j. (edge_at es j).byte) q in absurd (omega arith)) (λ (q : i ≡ p → ⊥). let f = r p i (omega arith) l in absurd (omega arith)) (cases_eq i p)) (cases_lt i p) in
+    let last : p ≡ i + 1 = ⊎_elim (λ (s : p ≡ i + 1). s) (λ (s : p ≡ i + 1 → ⊥). let f = r i (i + 1) (omega arith) (omega arith) in let h = low (i + 1) (omega arith) in absurd (omega arith)) (cases_eq p (i + 1)) in
+    let rec = rank n es k i (omega arith) r (λ j m. let f = r j i m l in omega arith) (λ m. omega arith) in
+    omega arith)
+    (λ a.
+    let one-is = ap one (listed_miss n es k a) in
+    let rec = rank n es k p pn r
+    (λ j m. let f = low j m in let g = a j (omega arith) in ⊎_elim (λ (q : (edge_at es j).byte ≡ k). absurd (g q)) (λ (q : (edge_at es j).byte ≡ k → ⊥). omega arith) (cases_eq ((edge_at es j).byte) k))
+    (λ m. let h = here m in omega arith) in
+    omega arith)
+    (placed n es k)
 
 -- the place of the first of them not below k, or n, is where such a search ends
 pub sought : (n : ℕ) (es : List Edge) (k : ℕ) (r : Option ℕ) → n ≤ length es → MatchOption r (AllWithin (λ (e : Edge). e.byte < k) (take n es) 0 (length (take n es))) (λ i. (i < length (take n es)) × HoldsAt (λ (e : Edge). k ≤ e.byte) (take n es) i × AllWithin (λ (e : Edge). e.byte < k) (take n es) 0 i) → (unwrap_or r n ≤ n) × Sought n (unwrap_or r n) es k

@@ -75,7 +75,6 @@ mod tests {
     use keys::Numbers;
     use terms::{Answer, Outcome};
 
-    // Nothing but the contracts of the index and the laws of the latch is known here.
     #[test]
     fn what_was_added_is_found(rt: HostRuntime) {
         let mut index: Index<Numbers, HandedOn> = Index::new();

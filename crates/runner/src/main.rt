@@ -10,7 +10,8 @@ use std::io::{Read, Write};
 const INPUT: usize = LONGEST_SCRIPT + 1;
 
 fn main(rt: HostRuntime) -> anyhow::Result<()> {
-    let mut script = Vec::with_capacity(rt.alloc(), INPUT)?;
+    // Room for one more: a reader that has filled all room asks for more before it sees the end.
+    let mut script = Vec::with_capacity(rt.alloc(), INPUT + 1)?;
     let mut out = vec![in rt.alloc(); 0u8; LONGEST_HISTORY]?;
     rt.stdin().take(INPUT as u64).read_to_end(&mut script)?;
     match history_of(&script, &mut out) {
